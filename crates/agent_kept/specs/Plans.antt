@@ -21,8 +21,7 @@ abbrev pub call_of : Request → List ℕ → Call
 call_of request.Discover bytes = call.Discover
 call_of (request.Begin flags n) bytes = call.Begin n
 call_of (request.BeginPartial flags list) bytes = call.BeginPartial list.now
-call_of (request.Open guid op.Read total) bytes = call.OpenRead guid
-call_of (request.Open guid op.Write total) bytes = call.OpenWrite guid
+call_of (request.Open guid op total) bytes = call.open_call guid op
 call_of (request.Write h n) bytes = call.Write h bytes
 call_of (request.Read h room) bytes = call.Read h room
 call_of (request.Commit h req most) bytes = call.Commit h req

@@ -2,7 +2,7 @@
 use Rattle.std.specs.Prelude.{◌≡◌, ◌≢◌, ℕ, List, [], Option, Some, Result, IfOk, length, map, take, drop, replicate, unwrap_or}
 use Rattle.std.specs.List.{All, zip}
 use Rattle.host_io.specs.{Access.Access, Access.Asks, Contents.Directory, Contents.HasRange, declared.joining.Piece.Piece}
-use Rattle.host_io.specs.Joined.{HasPiece, chunk_in, joined}
+use Rattle.host_io.specs.Joined.{AsksNoPiece, HasPiece, chunk_in, joined}
 use Rattle.fip_tables.specs.declared.frame.Frame.{Frame}
 use Rattle.fwu_formats.specs.Package.{Entry, Part}
 use Rattle.fip_making.specs.{Answers.AsksNothing, Answers.Gives, Answers.IsLate, Refusals.PackingOr, declared.made.Made.Made}
@@ -66,7 +66,7 @@ pub record IsWholeFile (told : Option Directory) (m : Made) : Type 0 where
 
 -- it has no piece of a file that such an access asks for
 abbrev pub HasNoPieceOf : (Access → Type 0) → Made → Type 0
-HasNoPieceOf IsOther m = (access : Access) → IsOther access → All (λ p. access ≢ Asks p.file.now) m.pieces.items
+HasNoPieceOf IsOther m = (access : Access) → IsOther access → AsksNoPiece m.pieces.items access
 
 -- A file of so many payloads is made, or it is said why none is. `HasAll` is for files that have the payloads, and `IsOther` for
 -- accesses to others.

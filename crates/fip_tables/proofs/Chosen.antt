@@ -7,10 +7,10 @@ use Rattle.std.proofs.lemmas.List.Elements.{All-head, All-tail}
 use Rattle.std.specs.Prelude.{◌==◌, ◌||◌, is_some, not}
 use Rattle.std.specs.List.{All, cons_option, find, list_any}
 use Rattle.std.specs.Option.{option_or}
-use Rattle.fwu_formats.specs.{Layout.ImageRow, Package.Entry, Package.Toc, Package.entry_of, Package.has_guid}
+use Rattle.fwu_formats.specs.{Layout.ImageRow, Package.Entry, Package.Toc, Package.entry_of, Package.has_guid, Layout.no_row, Package.has_image}
 use Rattle.fip_tables.specs.declared.images.ImageFault.{ImageFault}
 use Rattle.fip_tables.specs.declared.images.ImageFault.TheVariants.{Missing, TooLarge}
-use Rattle.fip_tables.specs.Images.{AreImages, ArePresent, has_image, lowest_fault, no_entry, no_row, present, present_fault, size_fault}
+use Rattle.fip_tables.specs.Images.{AreImages, ArePresent, lowest_fault, no_entry, present, present_fault, size_fault}
 
 -- ---- the lowest fault
 

@@ -1,16 +1,13 @@
 -- Which entries of a package are the images of a layout, and what is wrong with them.
-use Rattle.std.specs.Prelude.{◌≡◌, ◌*◌, ◌<◌, ◌≤◌, ℕ, Bool, true, nat_lt, if◌then◌else◌, List, [], ◌∷◌, Option, Some, None, Result, Ok, Err, filter_map, is_some, length, slice_index_or}
+use Rattle.std.specs.Prelude.{◌≡◌, ◌*◌, ◌<◌, ◌≤◌, ℕ, Bool, true, nat_lt, if◌then◌else◌, List, [], ◌∷◌, Option, Some, None, Result, Ok, Err, filter_map, length, slice_index_or}
 use Rattle.std.specs.List.{list_any}
 use Rattle.std.specs.Option.{option_or}
 use Rattle.base_core.specs.Block.{block_bytes}
-use Rattle.fwu_formats.specs.{Layout.ImageRow, Package.Entry, Package.Toc, Package.entry_of}
+use Rattle.fwu_formats.specs.{Layout.ImageRow, Layout.no_row, Package.Entry, Package.Toc, Package.entry_of, Package.has_image}
 use Rattle.fip_tables.specs.declared.images.ImageFault.{ImageFault}
 use Rattle.fip_tables.specs.declared.images.ImageFault.TheVariants.{Missing, TooLarge}
 
--- what stands past the end of a list of rows, and of one of entries
-abbrev pub no_row : ImageRow
-no_row = record { guid = []; slots = 0 }
-
+-- what stands past the end of a list of entries
 abbrev pub no_entry : Entry
 no_entry = record { guid = []; offset = 0; size = 0; flags = 0 }
 
@@ -34,9 +31,6 @@ lowest_fault fault (row ∷ rows) toc = option_or (fault row (entry_of toc row.g
 -- where all images are wanted
 abbrev pub images_fault : List ImageRow → Toc → Option ImageFault
 images_fault rows toc = lowest_fault image_fault rows toc
-
-abbrev pub has_image : Toc → ImageRow → Bool
-has_image toc row = is_some (entry_of toc row.guid)
 
 -- where those are wanted that the table has: one at least
 abbrev pub present_fault : List ImageRow → Toc → Option ImageFault

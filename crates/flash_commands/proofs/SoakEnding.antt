@@ -1,8 +1,8 @@
 -- The totals of a soak, and how it ended.
 use Rattle.std.proofs.Common.{◌≡◌, ◌+◌, Bool, cond, List, ◌∷◌, ◌++◌, length, refl, ◌∙◌, arith, length-append, [], ◌≢◌, ◌<◌, ℕ, get_or, Option, Some, None, Result, sym, ap, subst, IsTrue}
 use Rattle.std.proofs.lemmas.List.Sums.{count_by-le-length, fold-append, sum_by-append}
-use Rattle.fwu_model.specs.{Reply.Reply, Reply.Turn, Call.Call, Run.ends_run, Causes.status_by, Text.line, declared.kinds.Note.Note}
-use Rattle.gen_core.specs.Line.{LastStart, count_of, is_booted, is_fallback, is_lost, is_sent, last_started, start_after, totals_of, soak_line}
+use Rattle.fwu_model.specs.{Reply.Reply, Reply.Turn, Call.Call, Run.ends_run, Causes.status_by, Text.line, declared.kinds.Note.Note, Causes.is_lost}
+use Rattle.gen_core.specs.Line.{LastStart, count_of, is_booted, is_fallback, is_sent, last_started, start_after, totals_of, soak_line}
 use Rattle.gen_core.specs.{declared.line.Totals.Totals, Calls.file_name, Calls.round_calls, Calls.round_package, Calls.soak_calls}
 use Rattle.gen_core.specs.{Draws.register_after, Rounds.rounds_from, Setup.soak_layout, declared.rounds.Round.Round}
 use Rattle.std.specs.Prelude.{flat_map}

@@ -124,7 +124,8 @@ impl ByteFile for MemoryFile {
 
     fn write_at(&mut self, at: u64, bytes: &[u8]) -> io::Result<()>
         ensures writes { WritesBytes result at bytes.now (Some (content_of self.old)) (Some (content_of self.new)) }
-        ensures fails { FailsWithin (Some (fails_next self.old)) (Some (content_of self.old)) at (length bytes.now) (is_err result) }
+        ensures fails { FailsWithin (Some (fails_next self.old)) (Some (content_of self.old)) at (length bytes.now)
+            (is_err result) }
         ensures unchanged { OnErr result (content_of self.new ≡ content_of self.old) }
         ensures inside { OnOk result (Lies at (length bytes.now) (content_of self.old)) }
         ensures called { IsCalledOnce self.old self.new }

@@ -6,7 +6,7 @@ use Rattle.std.proofs.lemmas.Bool.{and_parts, and_from, le-leb, cases_lt}
 use Rattle.std.proofs.lemmas.List.{get_or-map, length-map, take_at, get_or-take, take-take, length-take-le, length-replicate, get_or-replicate, get_or_past}
 use Rattle.base_core.specs.{Block.blank, Block.block, Block.granule, Bytes.listed, Bytes.num_at}
 use Rattle.flash_core.specs.{Told.Told, Told.NothingDirty, Told.fresh, May.Keeps, May.Leaves, May.May}
-use Rattle.fwu_formats.specs.{Counter.counter_in, Counter.recorded, Counter.is_record, declared.kinds.BankState.BankState}
+use Rattle.fwu_formats.specs.{Counter.counter_in, Counter.recorded, Counter.is_record, declared.kinds.BankState.BankState, Layout.no_row}
 use Rattle.fwu_formats.specs.Layout.{ImageRow, Layout, fits_layout, slot_total, slot_bytes, start, layout_of}
 use Rattle.fwu_formats.specs.Metadata.{first_meta, Meta, MetaRead, state_at, meta_read}
 use Rattle.fwu_formats.specs.Manifest.{is_complete, manifest_part, version}
@@ -22,7 +22,7 @@ use Rattle.image_check.specs.{declared.bank.Verdict.Verdict, Law.verdict_may_sta
 use Rattle.image_check.specs.declared.bank.Verdict.TheVariants.{Good}
 use Rattle.image_check.proofs.Permitted.{good, permitted}
 use Rattle.moves.proofs.{Agree.package-same, Packages.package-held}
-use Rattle.fip_tables.specs.Images.{AreImages, no_entry, no_row}
+use Rattle.fip_tables.specs.Images.{AreImages, no_entry}
 use Rattle.flash_format.specs.Formatted.{first_state, HoldsImages, IsFormatted, IsRefusedFormat, IsOrdered, IsWholeFormat, full_bank, empty_bank}
 use Rattle.flash_format.specs.Places.{AllStand, Erased, HoldsThenErased}
 use Rattle.flash_format.proofs.Ranges.{length-payload, erased_stays, stands_whole, stands_stays, erased_range}

@@ -2,8 +2,8 @@
 use Rattle.std.proofs.Common.{◌≡◌, ℕ, suc, ◌+◌, ◌*◌, ◌<◌, ◌≤◌, List, [], ◌∷◌, length, get_or, take, ap, arith}
 use Rattle.std.proofs.lemmas.List.Sums.{sum_by-cons, sum_by_more}
 use Rattle.std.proofs.lemmas.List.{take_all}
-use Rattle.fwu_formats.specs.{Layout.ImageRow, Layout.slot_total, Package.Entry}
-use Rattle.fip_tables.specs.Images.{no_entry, no_row}
+use Rattle.fwu_formats.specs.{Layout.ImageRow, Layout.slot_total, Package.Entry, Layout.no_row}
+use Rattle.fip_tables.specs.Images.{no_entry}
 use Rattle.flash_format.specs.Planned.{pieces_in, block_pieces_of}
 
 -- one image more

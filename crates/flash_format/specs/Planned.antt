@@ -2,9 +2,9 @@
 use Rattle.std.specs.Prelude.{◌≡◌, ◌+◌, ◌*◌, ◌^◌, ◌<◌, ◌≤◌, ℕ, List, Option, Ok, All, length, slice_index_or, ◌-◌, ◌/◌, sum_by}
 use Rattle.base_core.specs.Block.{block_bytes}
 use Rattle.host_io.specs.Contents.{Directory}
-use Rattle.fwu_formats.specs.Layout.{Layout, blocks_needed, slot_total}
+use Rattle.fwu_formats.specs.Layout.{Layout, blocks_needed, slot_total, no_row}
 use Rattle.fwu_formats.specs.Package.{Entry, Toc, toc_of}
-use Rattle.fip_tables.specs.{Files.Lacks, Files.Tells, Images.AreImages, Images.no_entry, Images.no_row}
+use Rattle.fip_tables.specs.{Files.Lacks, Files.Tells, Images.AreImages, Images.no_entry}
 use Rattle.flash_core.specs.{Told.Told, Told.NothingDirty, Counts.lowered_by, declared.flash.Arming.Arming}
 use Rattle.flash_format.specs.{Formatted.IsBlank, Places.AllStand}
 

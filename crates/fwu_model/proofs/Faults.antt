@@ -4,10 +4,10 @@ use Rattle.std.proofs.lemmas.Bool.{cond_both}
 use Rattle.std.specs.List.{list_any}
 use Rattle.std.specs.Prelude.{IfErr}
 use Rattle.std.specs.Option.{option_or}
-use Rattle.fwu_formats.specs.{Layout.ImageRow, Capsule.is_capsule, Capsule.capsule_of}
+use Rattle.fwu_formats.specs.{Layout.ImageRow, Capsule.is_capsule, Capsule.capsule_of, Package.has_image}
 use Rattle.fwu_formats.specs.Package.{Toc, Entry, toc_of, entry_of}
 use Rattle.fwu_model.specs.{Reply.Reply, Run.is_refused_boot}
-use Rattle.fwu_model.specs.Answer.{first_image_fault, image_fault, table_in, table_or, first_size_fault, partial_fault, size_fault, too_large, has_image, type_of_image}
+use Rattle.fwu_model.specs.Answer.{first_image_fault, image_fault, table_in, table_or, first_size_fault, partial_fault, size_fault, too_large, type_of_image}
 use Rattle.fwu_model.specs.Reply as reply
 
 abbrev pub NoBoot : Option Reply → Type 0

@@ -2,7 +2,7 @@
 use Rattle.std.proofs.Common.{◌≡◌, ℕ, ◌≤◌, Bool, List, [], ◌++◌, length, take, Result, Ok, Err, refl, sym, ap, subst, ◌∙◌, IsTrue, IsFalse}
 use Rattle.std.specs.Prelude.{IfOk, OnOk}
 use Rattle.std.proofs.lemmas.List.{length-take-le, take-append-le}
-use Rattle.fwu_model.specs.{declared.kinds.Op.Op, declared.kinds.Status.Status, Call.Call, Reply.Reply, Answer.answer}
+use Rattle.fwu_model.specs.{declared.kinds.Op.Op, declared.kinds.Status.Status, Call.Call, Reply.Reply, Answer.answer, Call.open_call}
 use Rattle.fwu_model.specs.declared.kinds.Op.TheVariants as op
 use Rattle.fwu_model.specs.Call as call
 use Rattle.fwu_model.specs.Reply as reply
@@ -14,7 +14,7 @@ use Rattle.agent_machine.specs.{Meets.IsGot, Meets.Meets, Meets.MeetsPrevious, C
 use Rattle.agent_machine.specs.Meets as meets
 use Rattle.flash_core.specs.declared.flash.Flash.{Ghosts}
 use Rattle.agent_calls.specs.{GoneBack.SomePassed, AnswersCall.IsPreviousCall, AnswersCall.IsReplyOf}
-use Rattle.fwu_wire.specs.{Calls.open_call, Replies.replied, declared.replies.AgentReply.AgentReply, declared.stops.Stop.Stop}
+use Rattle.fwu_wire.specs.{Replies.replied, declared.replies.AgentReply.AgentReply, declared.stops.Stop.Stop}
 use Rattle.fwu_wire.specs.Taken.{CallMeets, agents_answer, said}
 use Rattle.fwu_wire.specs.declared.replies.AgentReply.TheVariants as wire
 

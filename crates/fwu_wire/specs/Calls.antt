@@ -1,7 +1,7 @@
 -- The functions of the agent by their numbers, and which call a request asks for, by its function and its arguments.
 use Rattle.std.specs.Prelude.{◌≡◌, ℕ, ◌==◌, ◌&&◌, nat_le, if◌then◌else◌, List, length, take, drop, Option, Some, None, option_map, ◌≤◌}
 use Rattle.base_core.specs.Bytes.{num_at}
-use Rattle.fwu_model.specs.{declared.kinds.Op.Op, Call.Call}
+use Rattle.fwu_model.specs.{declared.kinds.Op.Op, Call.Call, Call.open_call}
 use Rattle.fwu_model.specs.declared.kinds.Op.TheVariants as op
 use Rattle.fwu_model.specs.Call as call
 use Rattle.fwu_wire.specs.{declared.functions.Function.Function, declared.calls.AgentCall.AgentCall}
@@ -31,10 +31,6 @@ of_length n args c = if length args == n then Some c else None
 
 abbrev pub op_of : ℕ → Option Op
 op_of n = if n == 0 then Some op.Read else if n == 1 then Some op.Write else None
-
-abbrev pub open_call : List ℕ → Op → Call
-open_call guid op.Read = call.OpenRead guid
-open_call guid op.Write = call.OpenWrite guid
 
 -- a read asks for so many bytes at most
 abbrev pub most_room : ℕ

@@ -2,7 +2,8 @@
 ghost use Rattle.std.specs.Prelude.{◌≡◌, ◌≤◌, ℕ, Bool, List, IsFalse, IfOk, IfErr, Some, Err, drop, length, ◌++◌};
 ghost use Rattle.agent_calls.specs.Shown.{AgentGoes, device, fields, gone, moment};
 ghost use Rattle.fwu_model.specs.Call as call;
-ghost use Rattle.fwu_wire.specs.Calls.{most_room, open_call, shown, AsksWithin, FitsFrame};
+ghost use Rattle.fwu_wire.specs.Calls.{most_room, shown, AsksWithin, FitsFrame};
+ghost use Rattle.fwu_model.specs.Call.{open_call};
 ghost use Rattle.fwu_wire.specs.Taken.{CallMeets, IsQuietRequest, LeavesBuffer, agents_answer, count_read, said};
 
 use crate::calls::AgentCall;

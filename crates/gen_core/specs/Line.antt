@@ -1,6 +1,6 @@
 -- What a soak prints: one line at its end.
 use Rattle.std.specs.Prelude.{ℕ, Bool, true, false, List, ◌++◌, length, codes, decimal, count_by, fold}
-use Rattle.fwu_model.specs.Reply.{Reply, Turn}
+use Rattle.fwu_model.specs.{Causes.is_lost, Reply.Reply, Reply.Turn}
 use Rattle.fwu_model.specs.Reply as reply
 use Rattle.gen_core.specs.declared.line.Totals.{Totals}
 
@@ -11,10 +11,6 @@ is_booted other = false
 abbrev pub is_fallback : Reply → Bool
 is_fallback (reply.Booted bank version trials counter fallback) = fallback
 is_fallback other = false
-
-abbrev pub is_lost : Reply → Bool
-is_lost reply.Lost = true
-is_lost other = false
 
 -- a package that was sent and installed
 abbrev pub is_sent : Reply → Bool

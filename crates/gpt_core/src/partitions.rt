@@ -142,8 +142,9 @@ fn are_large_in(
 fn places_at(store: &Partition, zero: &Partition, one: &Partition) -> Places
     requires forward { store.now.first ≤ store.now.last }
     requires small { (store.now.last < most_blocks) × (zero.now.first < most_blocks) × (one.now.first < most_blocks) }
-    ensures { result ≡
-        record { store_first = store.now.first; store_blocks = partition_blocks store.now; replicas = zero.now.first ∷ one.now.first ∷ [] } }
+    ensures { result ≡ record {
+        store_first = store.now.first; store_blocks = partition_blocks store.now; replicas = zero.now.first ∷ one.now.first ∷ []
+    } }
 {
     Places {
         store_first: store.first as u32,

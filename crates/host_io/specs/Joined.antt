@@ -1,7 +1,8 @@
 -- Files that are made of a frame and of pieces of files.
-use Rattle.std.specs.Prelude.{◌≡◌, ⊤, ℕ, List, [], ◌∷◌, ◌++◌, Option, Some, None, drop, length, map, take, unwrap_or}
+use Rattle.std.specs.Prelude.{◌≡◌, ◌≢◌, ⊤, ℕ, List, [], ◌∷◌, ◌++◌, Option, Some, None, drop, length, map, take, unwrap_or}
 use Rattle.std.specs.Io.KnownBytes.{Appends}
-use Rattle.host_io.specs.{Contents.Directory, Contents.HasRange, Contents.Holds, declared.joining.Piece.Piece}
+use Rattle.std.specs.List.{All}
+use Rattle.host_io.specs.{Access.Access, Access.Asks, Contents.Directory, Contents.HasRange, Contents.Holds, declared.joining.Piece.Piece}
 
 -- bytes that stand behind so many more of the frame
 pub record Chunk : Type 0 where
@@ -16,6 +17,10 @@ joined frame (c ∷ cs) = take c.gap frame ++ (c.bytes ++ joined (drop c.gap fra
 -- told contents have the piece's bytes
 abbrev pub HasPiece : Option Directory → Piece → Type 0
 HasPiece told p = HasRange told p.file.now p.at p.count
+
+-- the access asks for no file in which one of the pieces lies
+abbrev pub AsksNoPiece : List Piece → Access → Type 0
+AsksNoPiece pieces access = All (λ p. access ≢ Asks p.file.now) pieces
 
 -- the piece with the bytes that files have of it
 abbrev pub chunk_in : Directory → Piece → Chunk

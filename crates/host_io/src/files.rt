@@ -13,7 +13,7 @@ pub trait Files {
     ghost use Rattle.host_io.specs.Causes.{HasCause, HasWriteCause};
     ghost use Rattle.std.specs.List.{All};
     ghost use Rattle.host_io.specs.Contents.{AddsRange, ChangesOnly, Directory, HasRange, Holds, TellsRange, TellsSize};
-    ghost use Rattle.host_io.specs.Joined.{HasPiece, HoldsJoined};
+    ghost use Rattle.host_io.specs.Joined.{AsksNoPiece, HasPiece, HoldsJoined};
     ghost use Rattle.host_io.specs.declared.stops.JoinStop.TheVariants as join;
     ghost use Rattle.host_io.specs.declared.stops.WriteStop.TheVariants as stop;
     ghost use Rattle.host_io.specs.declared.writes.Writes.{Writes};
@@ -33,8 +33,8 @@ pub trait Files {
 
     /// No call from the first to the second makes this access. It is nothing at run time, and an
     /// implementation need say no more than that it fits the two laws below. So code over files of any
-    /// type is held to what each call says of it. The pieces that a file is made of are no access of
-    /// their own: who names one has to know that it is there.
+    /// type is held to what each call says of it. Making a file of pieces asks for the files in which
+    /// they lie.
     ghost spares: { Self → Self → Access → Type 0 };
 
     /// How many bytes the file has. `None` says that no file has the name, which files that are not told
@@ -112,7 +112,8 @@ pub trait Files {
         ensures writes { CountsJoin result (writes self.old) (writes self.new) }
         ensures stands { result ≡ Err join.Failed → (contents self.new ≡ contents self.old)
             ⊎ Rose (writes self.old).torn (writes self.new).torn }
-        ensures spares { (access : Access) → access ≢ Makes name.now → spares self.old self.new access };
+        ensures spares { (access : Access) → access ≢ Makes name.now → AsksNoPiece pieces.now access
+            → spares self.old self.new access };
 
     /// The contents are told at each time, or never.
     ghost steady: { (f : Self) → is_some (contents f) ≡ tells };

@@ -7,8 +7,8 @@ use Rattle.fwu_formats.specs.declared.kinds.LayoutFault.{LayoutFault}
 use Rattle.fwu_formats.specs.declared.kinds.LayoutFault.TheVariants as fault
 
 -- no image, in the unused places of an array
-abbrev pub no_row : ImageRow
-no_row = record { guid = nil_guid; slots = 0 }
+abbrev pub unused_row : ImageRow
+unused_row = record { guid = nil_guid; slots = 0 }
 
 -- the row that a layout block has at an index
 abbrev pub layout_row_at : List ℕ → ℕ → ImageRow

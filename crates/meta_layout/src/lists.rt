@@ -269,15 +269,15 @@ impl Model for Rows {
     ghost use Rattle.base_core.specs.declared.rows.ImageRow.{ImageRow};
     ghost use Rattle.base_core.specs.Limits.{most_images};
     ghost use Rattle.meta_layout.specs.Padded.{IsPadded, padded-made};
-    ghost use Rattle.meta_layout.specs.Rows.{no_row};
+    ghost use Rattle.meta_layout.specs.Rows.{unused_row};
 
     ghost Value = { List ImageRow };
 
     ghost view = { λ r. take r.count r.rows };
 
-    ghost invariant = { λ r. IsPadded most_images no_row r.count r.rows };
+    ghost invariant = { λ r. IsPadded most_images unused_row r.count r.rows };
 
-    ghost inverse = { λ rows. record { count = length rows; rows = rows ++ replicate (most_images - length rows) no_row } };
+    ghost inverse = { λ rows. record { count = length rows; rows = rows ++ replicate (most_images - length rows) unused_row } };
 
     ghost inverse_ok = { λ r is. padded-made (λ n l. record { count = n; rows = l }) is };
 }

@@ -7,7 +7,7 @@ use Rattle.std.proofs.lemmas.List.Elements.{All-from_recursion}
 use Rattle.std.proofs.lemmas.Option.{cond_some}
 use Rattle.base_core.specs.Bytes.{same_bytes}
 use Rattle.fwu_model.specs.Call.{Call}
-use Rattle.fwu_model.specs.Script.{both, open_call, simple_call, call_of_three, call_of_words, line_of, after_line, calls_from, script_lines, script_of, call_of_four, call_of_others, begin_call, names_limit, types_of}
+use Rattle.fwu_model.specs.Script.{both, open_in_mode, simple_call, call_of_three, call_of_words, line_of, after_line, calls_from, script_lines, script_of, call_of_four, call_of_others, begin_call, names_limit, types_of}
 use Rattle.fwu_model.specs.Call as call
 use Rattle.fwu_formats.specs.Words.{is_word, digits_value, named, number_of, number_up_to, bytes_of, file_word_of, request_of, at_least_one}
 use Rattle.script_text.specs.{Armable.IsArmable, Law.CutsAreArmable, Law.CallsHaveLines}
@@ -76,7 +76,7 @@ sound_both f each (Some x) None = tt
 sound_both f each None (Some y) = tt
 sound_both f each None None = tt
 
-sound_open : (o : Option (List ℕ)) (mode : List ℕ) → Sound (option_and_then (λ guid. open_call guid mode) o)
+sound_open : (o : Option (List ℕ)) (mode : List ℕ) → Sound (option_and_then (λ guid. open_in_mode guid mode) o)
 sound_open None mode = tt
 sound_open (Some guid) mode = choice (is_word mode (codes "r")) _ _ tt (choice (is_word mode (codes "w")) _ _ tt tt)
 

@@ -4,7 +4,7 @@ ghost use Rattle.std.specs.List.{cons_option, slice_split};
 ghost use Rattle.base_core.specs.Block.{block_bytes};
 ghost use Rattle.fwu_model.specs.Call as call;
 ghost use Rattle.fwu_formats.specs.Words.{at_least_one, bytes_of, file_word_of, named, number_of, number_up_to, request_of};
-ghost use Rattle.fwu_model.specs.Script.{begin_call, both, open_call, room_limit};
+ghost use Rattle.fwu_model.specs.Script.{begin_call, both, open_in_mode, room_limit};
 ghost use Rattle.script_text.specs.Shown.{HasBuffer, shown};
 
 use crate::call::Call;
@@ -45,7 +45,7 @@ fn request_of(word: &[u8]) -> Option<u32>
 /// `open` with a type and `r` or `w`.
 pub fn open_of(name: &[u8], mode: &[u8]) -> Option<Call>
     ensures call { option_map shown result
-        ≡ option_and_then (λ guid. open_call guid mode.now) (named name.now) }
+        ≡ option_and_then (λ guid. open_in_mode guid mode.now) (named name.now) }
     ensures buffer { IfSome result HasBuffer }
 {
     let guid = guid_named(name)?;

@@ -4,7 +4,7 @@ use Rattle.std.specs.Prelude.{is_ok, IfOk, OnOk, []}
 use Rattle.std.proofs.lemmas.List.{length-take-le}
 use Rattle.flash_core.specs.declared.flash.Flash.{Ghosts}
 use Rattle.host_io.specs.Contents.{Directory}
-use Rattle.fwu_model.specs.{declared.kinds.Op.Op, State.State, Sound.Setting, Session.Session, Call.Call, Reply.Reply, Reply.Turn}
+use Rattle.fwu_model.specs.{declared.kinds.Op.Op, State.State, Sound.Setting, Session.Session, Call.Call, Reply.Reply, Reply.Turn, Call.open_call}
 use Rattle.fwu_model.specs.{Run.is_stop, Answer.are_named}
 use Rattle.fwu_model.specs.declared.kinds.Op.TheVariants as op
 use Rattle.fwu_model.specs.Call as call
@@ -22,7 +22,7 @@ use Rattle.fwu_journal.specs.Shown.{IsShortReply, turn}
 use Rattle.script_text.specs.Shown.{shown}
 use Rattle.script_text.specs.declared.call.Call.TheVariants as variant
 use Rattle.script_turns.specs.{Touches.IsMetaAfter, Powered.TurnMoment, Powered.SameDevice, Stage.on_where, Takes.TakesOn}
-use Rattle.script_turns.specs.{Calls.is_there, Calls.moment_where, Calls.open_call, Calls.reply_by, Turned.IsCallTurn}
+use Rattle.script_turns.specs.{Calls.is_there, Calls.moment_where, Calls.reply_by, Turned.IsCallTurn}
 use Rattle.script_turns.specs.{Turned.LeavesAgent, Turning.Turns, Turning.quiet_turn, declared.turned.AgentTurn.AgentTurn}
 use Rattle.script_turns.proofs.CallTakes.{done_reply, got, on_by, with}
 use Rattle.script_turns.proofs.CallTurns.{Called, GoesBackAs, begin-turns, call-turns, is_single}

@@ -8,14 +8,14 @@ use Rattle.flash_core.specs.{declared.flash.Arming.Arming, declared.flash.Counts
 use Rattle.flash_core.specs.{declared.flash.FlashStop.FlashStop, Told.Told, Calls.Goes}
 use Rattle.flash_core.specs.declared.flash.FlashStop.TheVariants as flash_stop
 use Rattle.flash_core.specs.Counts.{Spends, StaysUnarmed, stops_in}
-use Rattle.fwu_formats.specs.{Layout.ImageRow, Layout.Layout, Package.Entry, Package.Toc, Package.entry_of}
+use Rattle.fwu_formats.specs.{Layout.ImageRow, Layout.Layout, Package.Entry, Package.Toc, Package.entry_of, Package.has_image, Layout.no_row}
 use Rattle.fwu_formats.proofs.Same.{listed-same}
 use Rattle.fwu_model.specs.{State.State, State.Move, State.after, Sound.Setting, Call.Call, Reply.Reply, Reply.Turn}
 use Rattle.fwu_model.specs.{Causes.FileNotRead, Causes.LacksFile, Headline.LeavesOneOf}
 use Rattle.fwu_model.specs.Session.{Session, Off, On, Staged, Handle}
 use Rattle.fwu_model.specs.Call as call
 use Rattle.fwu_model.specs.Reply as reply
-use Rattle.fwu_model.specs.Answer.{Answer, answer, answered, answer_send, answer_send_partial, bits_over, type_of_image, has_image, image_held, images_of, images_over, install_unless, partial_fault, payload_or, send_file, send_file_over, send_package, sent_over, table_in}
+use Rattle.fwu_model.specs.Answer.{Answer, answer, answered, answer_send, answer_send_partial, bits_over, type_of_image, image_held, images_of, images_over, install_unless, partial_fault, payload_or, send_file, send_file_over, send_package, sent_over, table_in}
 use Rattle.fwu_model.specs.Run.{Condition, Answered, Stopped, asks_state, is_boot, is_off, is_send, is_stop, moved_on, prefixes, stopped_moves}
 use Rattle.moves.specs.Moved.{IsReady}
 use Rattle.moves.proofs.Composed.{does-idle}
@@ -24,7 +24,7 @@ use Rattle.agent_machine.specs.{Beside.KeepsSparedByAll, Beside.SparesBlocksByAl
 use Rattle.agent_machine.specs.{Machine.state_in, Machine.session_in, Knows.Fitting, Knows.Knows}
 use Rattle.agent_machine.proofs.{Beside.spared-same, Showing.known-shows}
 use Rattle.agent_machine.specs.Moment as agent
-use Rattle.update_client.specs.{declared.stops.Sent.Sent, declared.stops.SendStop.SendStop, Halts.flash_of, Choosing.no_row}
+use Rattle.update_client.specs.{declared.stops.Sent.Sent, declared.stops.SendStop.SendStop, Halts.flash_of}
 use Rattle.update_client.specs.declared.stops.SendStop.TheVariants.{End, ReadFailed, Lost, Fault, Gone}
 use Rattle.update_client.specs.Pieces.{ReadsPieceBy, unread_in}
 use Rattle.update_client.specs.Sends.{AnswersBy, GoneBy, IsEarlySend, Sends, SendEndsBy, ended_session, send_answer}

@@ -1,19 +1,13 @@
 -- The turn of a call of the agent, by what the call gave.
 use Rattle.std.specs.Prelude.{ℕ, Bool, true, false, List, Result, Ok, Err, ◌||◌}
 use Rattle.flash_core.specs.declared.flash.Flash.{Ghosts}
-use Rattle.fwu_model.specs.{declared.kinds.Op.Op, Call.Call, Reply.Reply, Run.is_send}
-use Rattle.fwu_model.specs.declared.kinds.Op.TheVariants as op
+use Rattle.fwu_model.specs.{Call.Call, Reply.Reply, Run.is_send}
 use Rattle.fwu_model.specs.Call as call
 use Rattle.fwu_model.specs.Reply as reply
 use Rattle.agent_machine.specs.{declared.stop.Stop.Stop}
 use Rattle.agent_machine.specs.declared.stop.Stop.TheVariants as stop
 use Rattle.agent_calls.specs.{declared.agent.Agent.Agent, Shown.device, Shown.fields}
 use Rattle.script_turns.specs.{Stage.on_where, Powered.TurnMoment, Powered.moment_on}
-
--- the call of an open
-abbrev pub open_call : List ℕ → Op → Call
-open_call guid op.Read = call.OpenRead guid
-open_call guid op.Write = call.OpenWrite guid
 
 -- the calls of the agent: all but these
 abbrev pub is_agents : Call → Bool

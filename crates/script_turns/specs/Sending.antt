@@ -4,16 +4,17 @@ use Rattle.std.specs.Prelude.{⊤, slice_index_or}
 use Rattle.base_core.specs.Block.{block_bytes}
 use Rattle.flash_core.specs.declared.flash.Arming.{Arming}
 use Rattle.host_io.specs.{Access.Access, Access.Asks, Contents.Directory}
-use Rattle.fwu_formats.specs.Package.{Toc}
+use Rattle.fwu_formats.specs.Package.{Toc, has_image}
 use Rattle.fwu_model.specs.{State.State, State.after, Sound.Setting, Session.Session, Call.Call, Reply.Reply}
 use Rattle.fwu_model.specs.Call as call
 use Rattle.fwu_model.specs.Reply as reply
-use Rattle.fwu_model.specs.Answer.{has_image, image_held, images_of, images_over, table_in}
+use Rattle.fwu_model.specs.Answer.{image_held, images_of, images_over, table_in}
 use Rattle.fip_tables.specs.Files.{Lacks, Tells}
 use Rattle.agent_machine.specs.{Fields.Fields, Meets.Stays}
 use Rattle.agent_machine.specs.Moment as agent
 use Rattle.agent_calls.specs.Takes.{Takes as TakesWrites, writes_to_begin}
-use Rattle.update_client.specs.{declared.stops.Sent.Sent, declared.stops.SendStop.SendStop, Choosing.no_row, Sends.send_answer}
+use Rattle.update_client.specs.{declared.stops.Sent.Sent, declared.stops.SendStop.SendStop, Sends.send_answer}
+use Rattle.fwu_formats.specs.Layout.{no_row}
 use Rattle.update_client.specs.declared.stops.SendStop.TheVariants.{MissingImage, ImageTooLarge, Begin, End, ReadFailed, Lost, Fault, Gone}
 use Rattle.update_client.specs.Takes.{DoneSendTakes as TakesSent, writes_sent}
 use Rattle.update_client.specs.Partial.{AreWhole, over_answer, writes_over}

@@ -6,7 +6,7 @@ use Rattle.std.proofs.{Math.Bool.Bool-set, Math.Logic.∥∥₁_elim, lemmas.Boo
 use Rattle.base_core.specs.Bytes.{num_at, same_bytes}
 use Rattle.fwu_formats.specs.Layout.{dir_guid}
 use Rattle.fwu_model.specs.Answer.{Answer, accept_image, answer, answer_accept, answer_begin, answer_cancel, answer_commit, answer_end, answer_off, answer_on, answer_open_read, answer_open_write, answer_previous, answer_read, answer_write, cannot_begin, exceeds_slot, handle_at, has_other, is_elsewhere, is_full, is_writer, may_end, may_go_back, may_leave, open_read}
-use Rattle.fwu_model.specs.{Call.Call, Reply.Reply, Reply.Turn, Run.is_refused_boot, Sound.Setting, State.State, State.bank}
+use Rattle.fwu_model.specs.{Call.Call, Reply.Reply, Reply.Turn, Run.is_refused_boot, Sound.Setting, State.State, State.bank, Call.open_call}
 use Rattle.fwu_model.specs.declared.kinds.Op.{Op}
 use Rattle.fwu_model.specs.Call as call
 use Rattle.fwu_model.specs.Reply as reply
@@ -19,7 +19,7 @@ use Rattle.agent_machine.specs.Fields.{Fields}
 use Rattle.agent_machine.specs.Moment as agent
 use Rattle.script_turns.specs.{Powered.FitsMachine, Powered.TurnMoment, Powered.kept_at, Runs.Follows, Turning.Turns}
 use Rattle.script_turns.specs.Replies.{AnswersTo, CallSays, IsFlashStop, Replies, no_call_reply}
-use Rattle.fwu_wire.specs.Calls.{asks, asks_by, of_length, op_of, open_call, function_of}
+use Rattle.fwu_wire.specs.Calls.{asks, asks_by, of_length, op_of, function_of}
 use Rattle.fwu_wire.specs.declared.functions.Function.{Function}
 use Rattle.fwu_wire.specs.declared.functions.Function.TheVariants as function
 use Rattle.serving.specs.Written.{called}

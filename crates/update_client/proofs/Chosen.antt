@@ -4,13 +4,13 @@ use Rattle.std.proofs.lemmas.List.{get_or_default}
 use Rattle.std.specs.Prelude.{nat_lt, option_map}
 use Rattle.std.specs.List.{All, list_any}
 use Rattle.std.specs.Option.{option_or}
-use Rattle.fwu_formats.specs.{Layout.ImageRow, Package.Entry, Package.Toc, Package.entry_of}
+use Rattle.fwu_formats.specs.{Layout.ImageRow, Package.Entry, Package.Toc, Package.entry_of, Layout.no_row, Package.has_image}
 use Rattle.fwu_model.specs.Reply.{Reply}
-use Rattle.fwu_model.specs.Answer.{first_image_fault, first_size_fault, has_image, partial_fault, size_fault, image_fault as machine_fault}
+use Rattle.fwu_model.specs.Answer.{first_image_fault, first_size_fault, partial_fault, size_fault, image_fault as machine_fault}
 use Rattle.fwu_model.specs.Reply as reply
 use Rattle.fip_tables.specs.declared.images.ImageFault.{ImageFault}
 use Rattle.fip_tables.specs.declared.images.ImageFault.TheVariants.{Missing, TooLarge}
-use Rattle.fip_tables.specs.Images.{AreImages, image_fault, images_fault, lowest_fault, no_entry, no_row, present_fault, size_fault as table_fault, ArePresent as AreThere}
+use Rattle.fip_tables.specs.Images.{AreImages, image_fault, images_fault, lowest_fault, no_entry, present_fault, size_fault as table_fault, ArePresent as AreThere}
 use Rattle.fip_tables.proofs.Chosen.{found_has}
 use Rattle.update_client.specs.{declared.stops.SendStop.SendStop, Partial.AreSendable}
 use Rattle.update_client.specs.Choosing.{AreChosen, refused_as, refused_image}

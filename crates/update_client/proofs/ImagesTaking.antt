@@ -4,13 +4,13 @@ use Rattle.std.proofs.lemmas.List.{take_all}
 use Rattle.std.specs.Prelude.{◌==◌}
 use Rattle.host_io.specs.Contents.{Directory}
 use Rattle.flash_core.specs.{declared.flash.Arming.Arming, Counts.lowered_by}
-use Rattle.fwu_formats.specs.{Layout.ImageRow, Package.Entry, Package.Toc, Package.entry_of}
+use Rattle.fwu_formats.specs.{Layout.ImageRow, Package.Entry, Package.Toc, Package.entry_of, Layout.no_row}
 use Rattle.fwu_model.specs.Call as call
 use Rattle.fwu_model.specs.Reply as reply
 use Rattle.slot_writer.specs.Writes.{writes_to_append, writes_to_finish}
 use Rattle.agent_kept.specs.{declared.parts.Handle.TheVariants.Writes, Kept.part_at, Kept.handle_kept, Kept.size_of}
 use Rattle.agent_machine.specs.{Ends.IsWriter, Moment.Moment}
-use Rattle.update_client.specs.{Pieces.WritesImage, Images.no_entry, Images.sent_parts, Choosing.no_row}
+use Rattle.update_client.specs.{Pieces.WritesImage, Images.no_entry, Images.sent_parts}
 use Rattle.update_client.specs.Takes.{PayloadPieceTakes, FirstTake, ImageTakes, ImagesTake, writes_in, writes_of_entry, writes_sent}
 use Rattle.update_client.proofs.{WrittenImage.WritesFirst, Staging.sent-long, Staging.sent-other, WrittenPiece.image-opened}
 use Rattle.update_client.proofs.SentImages.{SendsFirst, take-next}

@@ -6,11 +6,11 @@ use Rattle.std.proofs.lemmas.Bool.{cases_Bool}
 use Rattle.std.proofs.lemmas.List.{length-map, get_or-map}
 use Rattle.std.proofs.lemmas.List.FromFn.{length-map-range_with_len, get_or-map-range_with_len}
 use Rattle.base_core.specs.Bytes.{same_bytes}
-use Rattle.fwu_formats.specs.{Layout.ImageRow, Layout.find_image, Package.Entry, Package.Toc, Package.entry_of}
+use Rattle.fwu_formats.specs.{Layout.ImageRow, Layout.find_image, Package.Entry, Package.Toc, Package.entry_of, Package.has_image, Layout.no_row}
 use Rattle.fwu_model.specs.Session.{Nothing}
-use Rattle.fwu_model.specs.Answer.{are_named, names_unknown, copied_part, copied_parts, has_image, images_over, payload_or}
+use Rattle.fwu_model.specs.Answer.{are_named, names_unknown, copied_part, copied_parts, images_over, payload_or}
 use Rattle.fwu_model.proofs.Staging.{same-self, same-is}
-use Rattle.update_client.specs.{Partial.present, Partial.entry_types, Choosing.no_row}
+use Rattle.update_client.specs.{Partial.present, Partial.entry_types}
 use Rattle.update_client.proofs.{Present.kept_parts, Present.kept-at, Present.kept-long, OwnImages.found-has, Over.payloads}
 
 -- a type that is named is that of an entry, so of an image that the table has

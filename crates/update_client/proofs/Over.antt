@@ -2,9 +2,9 @@
 use Rattle.std.proofs.Common.{◌≡◌, cond, ℕ, ◌+◌, Bool, true, false, List, [], ◌∷◌, ◌++◌, length, map, set, Option, Some, None, refl, sym, ap, ◌∙◌, arith, length-append}
 use Rattle.std.specs.Prelude.{is_some}
 use Rattle.std.specs.List.{cons_option, list_all}
-use Rattle.fwu_formats.specs.{Layout.ImageRow, Package.Entry, Package.Toc, Package.entry_of, Package.payload}
+use Rattle.fwu_formats.specs.{Layout.ImageRow, Package.Entry, Package.Toc, Package.entry_of, Package.payload, Package.has_image}
 use Rattle.fwu_model.specs.Session.{Staged, Nothing, Committed, is_committed}
-use Rattle.fwu_model.specs.Answer.{staged_package, staged_bits, copied_part, has_image, payload_or}
+use Rattle.fwu_model.specs.Answer.{staged_package, staged_bits, copied_part, payload_or}
 use Rattle.update_client.specs.{Images.sent_parts, Partial.present}
 use Rattle.update_client.proofs.{Staging.append-one, Staging.set-place, Present.places, Present.kept_parts}
 

@@ -5,11 +5,11 @@ use Rattle.std.specs.List.{find, range_with_len}
 use Rattle.std.proofs.lemmas.List.{length-replicate}
 use Rattle.std.proofs.lemmas.List.FromFn.{length-range_with_len, get_or-range_with_len}
 use Rattle.fwu_model.specs.{Session.Nothing, Sound.Setting}
-use Rattle.fwu_formats.specs.Layout.{find_image, are_distinct, slot_bytes}
+use Rattle.fwu_formats.specs.Layout.{find_image, are_distinct, slot_bytes, no_row}
 use Rattle.fwu_formats.specs.Package.{Entry, Toc, has_guid}
 use Rattle.fwu_model.proofs.Staging.{same-is}
 use Rattle.agent_calls.proofs.OwnRows.{guid_in, own-image}
-use Rattle.update_client.specs.{Choosing.AreChosen, Choosing.no_row, Images.AreUnstaged, Images.no_entry}
+use Rattle.update_client.specs.{Choosing.AreChosen, Images.AreUnstaged, Images.no_entry}
 
 pub found-has : (guid : List ℕ) (es : List Entry) (e : Entry) → find (has_guid guid) es ≡ Some e → e.guid ≡ guid
 found-has guid [] e is = absurd cc

@@ -7,12 +7,12 @@ use Rattle.fip_tables.proofs.Chosen.{found_has}
 use Rattle.std.proofs.lemmas.List.{get_or_default}
 use Rattle.std.proofs.lemmas.List.Sums.{sum_by-cons}
 use Rattle.std.specs.Option.{option_or}
-use Rattle.fwu_formats.specs.Layout.{ImageRow, Layout, fits_layout, are_distinct, find_image, slot_bytes}
-use Rattle.fwu_formats.specs.Package.{Entry, Toc, entry_of}
+use Rattle.fwu_formats.specs.Layout.{ImageRow, Layout, fits_layout, are_distinct, find_image, slot_bytes, no_row}
+use Rattle.fwu_formats.specs.Package.{Entry, Toc, entry_of, has_image}
 use Rattle.fwu_model.specs.{Sound.Setting, Session.Staged, Session.Nothing, Reply.Reply}
-use Rattle.fwu_model.specs.Answer.{copied_part, first_size_fault, has_image, sent_over, size_fault, skipped}
+use Rattle.fwu_model.specs.Answer.{copied_part, first_size_fault, sent_over, size_fault, skipped}
 use Rattle.fwu_model.specs.Reply as reply
-use Rattle.update_client.specs.{Choosing.no_row, Images.AreUnstaged, Images.no_entry, Partial.AreSendable, Partial.present}
+use Rattle.update_client.specs.{Images.AreUnstaged, Images.no_entry, Partial.AreSendable, Partial.present}
 use Rattle.agent_calls.proofs.OwnRows.{guid_in, own-image}
 use Rattle.update_client.proofs.OwnImages.{found-has}
 use Rattle.fwu_model.proofs.Selects.{layout-distinct}

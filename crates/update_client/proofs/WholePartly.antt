@@ -5,10 +5,10 @@ use Rattle.std.specs.List.{list_all, list_any}
 use Rattle.std.proofs.lemmas.List.{get_or-map, length-map}
 use Rattle.base_core.specs.Bytes.{same_bytes}
 use Rattle.host_io.specs.Contents.{Directory}
-use Rattle.fwu_formats.specs.{Layout.Layout, Layout.ImageRow, Layout.fits_layout, Package.Entry, Package.Toc, Package.payload}
+use Rattle.fwu_formats.specs.{Layout.Layout, Layout.ImageRow, Layout.fits_layout, Package.Entry, Package.Toc, Package.payload, Package.has_image, Layout.no_row}
 use Rattle.fwu_model.specs.{State.State, State.after, Sound.Setting, Reply.Reply}
 use Rattle.fwu_model.specs.Session.{Session, On, Staged, Handle, is_committed}
-use Rattle.fwu_model.specs.Answer.{Answer, answered, refused, begin_moves, bits_over, cannot_begin, has_image, images_over, partial_fault, sent_over, staged_bits, staged_package, are_named, copied_parts, image_held, names_unknown}
+use Rattle.fwu_model.specs.Answer.{Answer, answered, refused, begin_moves, bits_over, cannot_begin, images_over, partial_fault, sent_over, staged_bits, staged_package, are_named, copied_parts, image_held, names_unknown}
 use Rattle.fwu_model.specs.Reply as reply
 use Rattle.fwu_model.specs.declared.kinds.Status.TheVariants as status
 use Rattle.agent_machine.specs.{declared.stop.Stop.Stop, Moment.Moment, Moment.Shows, Goes.GoesByMoves, Filling.between}
@@ -18,7 +18,7 @@ use Rattle.agent_calls.specs.{Partly.begins_over, Copies.AnswersAs, Copies.Begin
 use Rattle.agent_calls.proofs.BegunPartly.{held, held-is}
 use Rattle.update_client.specs.{declared.stops.Sent.Sent, declared.stops.SendStop.SendStop, Finishes.InstallsImages}
 use Rattle.update_client.specs.{Halts.unbegun_as, Images.AreUnstaged, Images.sent_parts, Sends.IsInstalled}
-use Rattle.update_client.specs.Choosing.{no_row, refused_image}
+use Rattle.update_client.specs.Choosing.{refused_image}
 use Rattle.update_client.specs.Partial.{AreWhole, GoesAs, WasBegun, IsCountedOver, SendsOver, over_answer, present, entry_types, AreSendable, InstallsOver}
 use Rattle.update_client.proofs.{Installed.told_value, Installed.told-is, Named.copied-is, Named.named-is, Named.payloads-are}
 use Rattle.update_client.proofs.{Staging.IsPacked, Present.placed-in, Present.kept_parts, Present.places}

@@ -4,7 +4,7 @@ use Rattle.std.proofs.Math.Nat.{ℕ_set}
 use Rattle.std.proofs.Math.Logic.{∥∥₁_elim}
 use Rattle.std.specs.Prelude.{◌%◌, ◌==◌, IsTrue}
 use Rattle.host_io.specs.Contents.{Directory}
-use Rattle.fwu_formats.specs.{Layout.Layout, Layout.ImageRow, Layout.fits_layout, Metadata.Meta}
+use Rattle.fwu_formats.specs.{Layout.Layout, Layout.ImageRow, Layout.fits_layout, Metadata.Meta, Layout.no_row}
 use Rattle.fwu_formats.specs.Package.{Toc, Entry, entry_of, payload}
 use Rattle.fwu_model.specs.{State.State, State.update_bank, Sound.Setting, Reply.Reply}
 use Rattle.fwu_model.specs.Session.{Session, On, Staged, Handle, Nothing}
@@ -17,7 +17,7 @@ use Rattle.agent_machine.specs.declared.stop.Stop.TheVariants as stop
 use Rattle.update_client.specs.{declared.stops.Sent.Sent, declared.stops.SendStop.SendStop, Halts.unbegun_as, Images.AreUnstaged}
 use Rattle.update_client.specs.{Images.sent_parts, Finishes.InstallsImages, Partial.GoesAs}
 use Rattle.update_client.specs.declared.stops.SendStop.TheVariants.{Begin}
-use Rattle.update_client.specs.Choosing.{AreChosen, refused_image, no_row, no_entry}
+use Rattle.update_client.specs.Choosing.{AreChosen, refused_image, no_entry}
 use Rattle.update_client.specs.Sends.{Installs, AllowsBegin, IsInstalled, IsSwitched, Sends, SendEndsBy, send_answer}
 use Rattle.std.specs.List.{range_with_len}
 use Rattle.agent_machine.proofs.CallGoing.{MeetsAs, call-goes, call-replies, call-stopped}

@@ -1,10 +1,10 @@
 -- Which entries of a package are the images of a layout, and what is refused.
 use Rattle.std.specs.Prelude.{◌≡◌, ◌*◌, ◌<◌, ◌≤◌, ℕ, List, Option, Some, None, Result, Ok, Err, length, slice_index_or}
 use Rattle.base_core.specs.Block.{block_bytes}
-use Rattle.fwu_formats.specs.{Layout.ImageRow, Package.Entry, Package.Toc, Package.entry_of}
+use Rattle.fwu_formats.specs.{Layout.ImageRow, Package.Entry, Package.Toc, Package.entry_of, Layout.no_row}
 use Rattle.fwu_model.specs.{Reply.Reply, Answer.first_image_fault}
 use Rattle.fwu_model.specs.Reply as reply
-pub use Rattle.fip_tables.specs.Images.{no_row, no_entry}
+pub use Rattle.fip_tables.specs.Images.{no_entry}
 use Rattle.fip_tables.specs.declared.images.ImageFault.{ImageFault}
 use Rattle.fip_tables.specs.declared.images.ImageFault.TheVariants as image
 use Rattle.update_client.specs.declared.stops.SendStop.{SendStop}

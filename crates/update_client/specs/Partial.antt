@@ -1,11 +1,11 @@
 -- What a partial sending stages over the images of the active bank.
 use Rattle.std.specs.Prelude.{◌≡◌, ◌+◌, ◌<◌, ℕ, Bool, false, List, [], IsTrue, length, map, Option, Some, None, Result, Ok, Err, slice_index_or, ⊤}
-use Rattle.fwu_formats.specs.{Layout.ImageRow, Package.Entry, Package.Toc}
+use Rattle.fwu_formats.specs.{Layout.ImageRow, Package.Entry, Package.Toc, Package.has_image, Layout.no_row}
 use Rattle.fwu_model.specs.Reply as reply
 use Rattle.fwu_model.specs.{Session.Session, Session.Off, Session.On, State.State, Sound.Setting}
-use Rattle.fwu_model.specs.Answer.{Answer, answered, are_named, bits_over, has_image, image_held, images_over, install_unless, partial_fault, sent_over}
+use Rattle.fwu_model.specs.Answer.{Answer, answered, are_named, bits_over, image_held, images_over, install_unless, partial_fault, sent_over}
 use Rattle.agent_calls.specs.Takes.{writes_to_copy}
-use Rattle.update_client.specs.{Takes.writes_in, declared.stops.SendStop.SendStop, Choosing.no_row, Choosing.refused_image}
+use Rattle.update_client.specs.{Takes.writes_in, declared.stops.SendStop.SendStop, Choosing.refused_image}
 use Rattle.update_client.specs.{Sends.SendEndsAs, Sends.IsInstalled, declared.stops.Sent.Sent}
 use Rattle.update_client.specs.declared.stops.SendStop.TheVariants.{End, ReadFailed}
 pub use Rattle.fip_tables.specs.Images.{present}

@@ -1,6 +1,7 @@
 use Rattle.std.proofs.Common.{◌≡◌, ℕ, ◌*◌, ◌<◌, ◌≤◌, length, get_or, drop, Some}
 use Rattle.fwu_formats.specs.Package.{entry_of}
-use Rattle.fip_tables.specs.Images.{images_fault, no_row, no_entry}
+use Rattle.fip_tables.specs.Images.{images_fault, no_entry}
+use Rattle.fwu_formats.specs.Layout.{no_row}
 use Rattle.fip_tables.proofs.images.images_of.Given as goal
 
 abbrev pub invariant-loop-k : goal.invariant-loop-k

@@ -1,8 +1,8 @@
 use Rattle.std.proofs.Common.{◌≤◌, ℕ, Some, length, sym, ap, ◌∙◌, arith, eq-eqb, ne_eqb}
 use Rattle.std.specs.Prelude.{◌==◌}
 use Rattle.std.proofs.lemmas.List.{get_or_default}
-use Rattle.fwu_formats.specs.Layout.{ImageRow}
-use Rattle.fip_tables.specs.{Images.no_row, declared.images.ImageFault.TheVariants.Missing}
+use Rattle.fwu_formats.specs.Layout.{ImageRow, no_row}
+use Rattle.fip_tables.specs.declared.images.ImageFault.TheVariants.{Missing}
 use Rattle.fip_tables.proofs.Chosen.{all_present, none_present}
 use Rattle.fip_tables.proofs.images.present_images_of.Goals as goal
 

@@ -6,8 +6,8 @@ use Rattle.flash_core.proofs.{Calls.keeps_wider, Calls.keeps_then, Costs.spends_
 use Rattle.flash_core.proofs.Touches.{touches_then, touches_wider}
 use Rattle.host_io.specs.Contents.{Directory}
 use Rattle.host_io.proofs.Reading.{reads-then}
-use Rattle.fip_tables.specs.{Files.Tells, Images.no_row, Images.no_entry}
-use Rattle.fwu_formats.specs.{Layout.ImageRow, Layout.slot_total, Layout.start, Layout.slot_bytes, Package.Entry, Package.payload}
+use Rattle.fip_tables.specs.{Files.Tells, Images.no_entry}
+use Rattle.fwu_formats.specs.{Layout.ImageRow, Layout.slot_total, Layout.start, Layout.slot_bytes, Package.Entry, Package.payload, Layout.no_row}
 use Rattle.fwu_formats.proofs.SealLaws.{limits}
 use Rattle.image_check.proofs.OfBank.{bank_fits}
 use Rattle.flash_format.specs.{Places.HoldsThenErased, Planned.pieces_in, Planned.block_pieces_of}

@@ -1,7 +1,8 @@
 use Rattle.std.proofs.Common.{◌≡◌, ◌≤◌, ◌∙◌, ℕ, List, ◌++◌, length, take, drop, refl, ap, subst, sym, arith}
 use Rattle.std.proofs.lemmas.List.{length-take-le}
 use Rattle.fwu_model.specs.Call as call
-use Rattle.fwu_wire.specs.Calls.{open_call, shown, AsksWithin}
+use Rattle.fwu_wire.specs.Calls.{shown, AsksWithin}
+use Rattle.fwu_model.specs.Call.{open_call}
 use Rattle.fwu_wire.proofs.Buffers.{read-behind}
 use Rattle.fwu_wire.proofs.Meeting.{here, meets-as, meets-done, meets-previous}
 use Rattle.fwu_wire.proofs.calling.call_agent.Goals as goal

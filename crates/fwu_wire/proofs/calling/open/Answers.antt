@@ -1,5 +1,5 @@
 use Rattle.std.proofs.Common.{Ok, Err}
-use Rattle.fwu_wire.specs.Calls.{open_call}
+use Rattle.fwu_model.specs.Call.{open_call}
 use Rattle.fwu_wire.specs.declared.replies.AgentReply.TheVariants as wire
 use Rattle.fwu_wire.proofs.Meeting.{here, meets-open, meets-refused}
 use Rattle.fwu_wire.proofs.calling.open.Goals as goal
