@@ -143,7 +143,9 @@ fn places_at(store: &Partition, zero: &Partition, one: &Partition) -> Places
     requires forward { store.now.first ≤ store.now.last }
     requires small { (store.now.last < most_blocks) × (zero.now.first < most_blocks) × (one.now.first < most_blocks) }
     ensures { result ≡ record {
-        store_first = store.now.first; store_blocks = partition_blocks store.now; replicas = zero.now.first ∷ one.now.first ∷ []
+      store_first = store.now.first;
+      store_blocks = partition_blocks store.now;
+      replicas = zero.now.first ∷ one.now.first ∷ [];
     } }
 {
     Places {
