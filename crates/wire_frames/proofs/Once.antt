@@ -5,10 +5,10 @@ use Rattle.std.specs.List.{slice_get}
 use Rattle.std.proofs.lemmas.Bool.{and_parts, eqb-false, eqb-true, not-true, ltb-true, false≢true}
 use Rattle.std.proofs.lemmas.Option.{same_Some, slice_get-map, slice_get_within}
 use Rattle.std.proofs.lemmas.List.{append-nil, length_push, map-append, take-append-le}
-use Rattle.wire_frames.specs.{declared.exchange.Admission.Admission, Asking.Asking, Asking.fits, Asking.may_ask}
+use Rattle.wire_frames.specs.declared.exchange.Admission.{Admission}
 use Rattle.wire_frames.specs.declared.exchange.Admission.TheVariants.{Acts, Repeats, Ignored}
 use Rattle.wire_frames.specs.Frames.{body_of, frame, request_number_of, numbered}
-use Rattle.wire_frames.specs.Exchange.{LastAnswer, admission}
+use Rattle.wire_frames.specs.Exchange.{Asking, LastAnswer, admission, fits, may_ask}
 use Rattle.wire_frames.specs.Events.{ActsAtMostOnce, Event, Asks, Again, Request_comes, Reply_comes, IsFrontOf, Pair, WireWorld, acts, asks, happens, reply_comes, request_comes, run, serves, start_world}
 use Rattle.wire_frames.proofs.Numbers.{body-frame, number-numbered}
 use Rattle.wire_frames.proofs.Places.{get-cases, get-keeps, get-seam, get-taken, take-next}

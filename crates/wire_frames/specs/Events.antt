@@ -3,8 +3,7 @@ use Rattle.std.specs.Prelude.{◌≡◌, ℕ, ◌+◌, ◌≤◌, Bool, true, fa
 use Rattle.wire_frames.specs.declared.exchange.Admission.{Admission}
 use Rattle.wire_frames.specs.declared.exchange.Admission.TheVariants.{Acts, Repeats, Ignored}
 use Rattle.wire_frames.specs.Frames.{body_of, frame, request_number_of, numbered}
-use Rattle.wire_frames.specs.Exchange.{LastAnswer, admission, none_yet}
-use Rattle.wire_frames.specs.Asking.{Asking, with_request, asked_none, closed, fits, may_ask}
+use Rattle.wire_frames.specs.Exchange.{Asking, LastAnswer, admission, asked_none, closed, fits, may_ask, none_yet, with_request}
 
 -- a request and a reply, as bodies of frames
 pub record Pair : Type 0 where

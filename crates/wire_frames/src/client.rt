@@ -1,7 +1,6 @@
 //! The side that asks.
 ghost use Rattle.std.specs.Prelude.{◌≡◌, ◌≤◌, IsTrue, length};
-ghost use Rattle.wire_frames.specs.Asking.{with_request, asked_none, closed, fits, may_ask};
-ghost use Rattle.wire_frames.specs.Asking.{AsksFrame};
+ghost use Rattle.wire_frames.specs.Exchange.{AsksFrame, with_request, asked_none, closed, fits, may_ask};
 ghost use Rattle.wire_frames.specs.Frames.{PutsFront};
 
 use crate::frames::{number_of, put_message};
@@ -27,7 +26,7 @@ pub struct Client {
 
 impl Model for Client {
     ghost use Rattle.std.specs.Prelude.{◌≡◌, ◌<◌, ◌≤◌, ℕ, true};
-    ghost use Rattle.wire_frames.specs.Asking.{Asking};
+    ghost use Rattle.wire_frames.specs.Exchange.{Asking};
 
     ghost Value = { Asking };
 
