@@ -51,13 +51,6 @@ pub read-none : {I T : Type 0} (g : Ghosts I) (old new : I) (why : FrameStop) �
     → ReadsOnce g old new → ReadsSource {T = T} g old new (Err why)
 read-none g old new why faults later once = record { faults = faults; later = later; goes = tt; once = once }
 
--- an end is no failure, within a frame or not
-pub read-between : {I T U : Type 0} (g : Ghosts I) (old new : I) (why : Cut) (between : Bool) → ReadsSource {T = U} g old new (Err (stop_by why false)) → ReadsSource {T = T} g old new (Err (stop_by why between))
-read-between g old new cut.Ended true r = read-none g old new _ r.faults r.later r.once
-read-between g old new cut.Ended false r = read-none g old new _ r.faults r.later r.once
-read-between g old new cut.TooLong between r = read-none g old new _ r.faults r.later r.once
-read-between g old new cut.Failed between r = read-none g old new _ r.faults r.later r.once
-
 -- other bytes came before it
 pub cuts-behind : (why : Cut) (bytes got : List ℕ) (taken mid now : ℕ) (a b c : Option (List ℕ)) → Consumes a b bytes → mid ≡ taken + length bytes → CutsShort why got mid now b c → CutsShort why (bytes ++ got) taken now a c
 cuts-behind cut.Ended bytes got taken mid now a b c first sum (came, ended, count) =

@@ -1,10 +1,9 @@
-use Rattle.std.proofs.Common.{◌≡◌, ◌≤◌, ◌+◌, ◌-◌, ◌++◌, List, ℕ, ◌∙◌, ap, subst, sym, length, take, drop, arith, length-append, append-nil, [], rules}
+use Rattle.std.proofs.Common.{◌≡◌, ◌≤◌, ◌+◌, ◌-◌, ◌++◌, List, ℕ, ◌∙◌, ap, subst, sym, length, take, drop, arith, length-append, rules}
 use Rattle.std.specs.Io.KnownBytes.{Consumes}
 use Rattle.std.proofs.KnownBytes.{Consumes-trans}
-use Rattle.std.proofs.lemmas.List.{length-take-le, length-drop, take_at, take_rest}
+use Rattle.std.proofs.lemmas.List.{length-take-le, length-drop, take_rest}
 use Rattle.host_io.proofs.Once.{bytes-then, once-then}
-use Rattle.wire_frames.specs.Stream.{CutsShort}
-use Rattle.wire_frames.proofs.Filling.{cuts-behind, taken-more, read-none}
+use Rattle.wire_frames.proofs.Filling.{taken-more, read-none}
 use Rattle.wire_frames.proofs.stream.FrameReader.fill.Goals as goal
 
 pub loop-at-preserved : goal.loop-at-preserved
@@ -35,12 +34,3 @@ pub returns-in-Err-clause-reads : goal.returns-in-Err-clause-reads
 returns-in-Err-clause-reads g c =
     read-none g.I.Source _ _ _ (search rules) (search rules)
     (once-then g.I.Source g.met.I.Source.joins c.args.source.now c.loop-at.source c.read_some.new.source c.loop-at.invariant.reads c.read_some.ensures.reads.once)
-
-pub returns-in-Err-clause-cut : goal.returns-in-Err-clause-cut
-returns-in-Err-clause-cut g c =
-    let at = c.loop-at.at in
-    let front : List ℕ = take at c.loop-at.out in
-    let was = c.loop-at.invariant in
-    subst (λ (l : List ℕ). CutsShort c.in-Err.why l c.args.self.now c.read_some.new.self (g.I.Source.left c.args.source.now) (g.I.Source.left c.read_some.new.source))
-    (append-nil front ∙ sym (take_at front _ at (length-take-le at c.loop-at.out was.within)))
-    (cuts-behind c.in-Err.why front [] _ _ _ _ (g.I.Source.left c.loop-at.source) _ was.came (was.taken ∙ ap (λ (n : ℕ). c.args.self.now + n) (sym (length-take-le at c.loop-at.out was.within))) c.in-Err.ensures.cut)

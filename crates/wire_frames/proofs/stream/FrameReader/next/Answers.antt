@@ -1,9 +1,9 @@
-use Rattle.std.proofs.Common.{◌≡◌, ◌<◌, Err, false, List, ℕ, ◌∙◌, subst, sym, refl, length, take, drop, ◌++◌, arith, length-append, rules}
+use Rattle.std.proofs.Common.{◌≡◌, ◌<◌, false, List, ℕ, ◌∙◌, subst, sym, refl, length, take, drop, ◌++◌, arith, length-append, rules}
 use Rattle.std.proofs.lemmas.List.{length-take, length-take-le}
 use Rattle.std.proofs.lemmas.Bool.{false≢true}
 use Rattle.host_io.proofs.Once.{bytes-then, once-then}
-use Rattle.wire_frames.specs.Stream.{ReadsSource, StopsReading}
-use Rattle.wire_frames.proofs.Filling.{cuts-behind, partial-body, read-between, reads-frame, stops-by, read-none}
+use Rattle.wire_frames.specs.Stream.{StopsReading}
+use Rattle.wire_frames.proofs.Filling.{cuts-behind, partial-body, reads-frame, stops-by, read-none}
 use Rattle.wire_frames.proofs.stream.FrameReader.next.Goals as goal
 
 pub returns-in-Ok-clause-frame : goal.returns-in-Ok-clause-frame
@@ -43,8 +43,3 @@ pub returns-in-Err-fill-clause-reads : goal.returns-in-Err-fill-clause-reads
 returns-in-Err-fill-clause-reads g c =
     read-none g.I.Source _ _ _ (search rules) (search rules)
     (once-then g.I.Source g.met.I.Source.joins c.args.source.now c.fill.new.source c.fill-2.new.source c.in_default.ensures.reads.goes c.fill-2.ensures.reads.once)
-
-pub returns-in-Err-clause-reads : goal.returns-in-Err-clause-reads
-returns-in-Err-clause-reads g c =
-    subst (λ why. ReadsSource g.I.Source c.args.source.now c.fill.new.source (Err why)) (sym c.stop_of.ensures)
-    (read-between g.I.Source _ _ c.in-Err.short.why _ c.in-Err.ensures.reads)
