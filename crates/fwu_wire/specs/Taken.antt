@@ -1,13 +1,20 @@
 -- What a call of the agent gave, as a reply of the machine, and what a server made of a request.
-use Rattle.std.specs.Prelude.{◌≡◌, ℕ, ◌+◌, Bool, true, false, List, take, drop, Option, Some, None, Result, Ok, Err, IfOk, IsTrue}
-use Rattle.std.specs.Prelude.{⊤}
+use Rattle.std.specs.Prelude.{◌≡◌, ℕ, ◌+◌, ◌-◌, Bool, true, false, List, length, take, drop, Option, Some, None, Result, Ok, Err}
+use Rattle.std.specs.Prelude.{IfOk, IsFalse, IsTrue, ⊤}
+use Rattle.flash_core.specs.declared.flash.Flash.{Ghosts}
+use Rattle.fwu_formats.specs.{Layout.find_image, Metadata.bit_at}
 use Rattle.fwu_model.specs.{Call.Call, Reply.Reply, declared.kinds.Status.Status}
 use Rattle.fwu_model.specs.Call as call
 use Rattle.fwu_model.specs.Reply as model
+use Rattle.slot_writer.specs.{Slots.done_of, Writes.SpendsArming, Writes.writes_to_append, Writes.writes_to_finish}
+use Rattle.agent_kept.specs.Kept.{handle_kept, part_at, size_of}
+use Rattle.agent_kept.specs.declared.parts.Handle.TheVariants.{Writes}
 use Rattle.agent_machine.specs.declared.stop.Stop as agents
 use Rattle.agent_machine.specs.declared.stop.Stop.TheVariants as agent_stop
-use Rattle.agent_machine.specs.{Ends.IsWriter, Fields.Fields, Meets.LeavesFlash, Meets.flash_result, Moment.Moment}
-use Rattle.agent_calls.specs.{AnswersCall.AnswersCall, Metas.has_invalid_target, declared.agent.Agent.Agent}
+use Rattle.agent_machine.specs.{Ends.IsWriter, Ends.TakesSwitch, Fields.Fields, Stored.may_try_kept}
+use Rattle.agent_machine.specs.{Meets.LeavesFlash, Meets.flash_result, Moment.Moment}
+use Rattle.agent_calls.specs.{AnswersCall.AnswersCall, Metas.has_invalid_target, Records.ReadsAlone, declared.agent.Agent.Agent}
+use Rattle.agent_calls.specs.{Shown.SpendsStore, Shown.device, Shown.fields, Shown.moment, Takes.Takes, Takes.writes_to_begin}
 use Rattle.wire_frames.specs.{declared.exchange.Admission.Admission, Frames.frame, Frames.request_number_of, Frames.numbered}
 use Rattle.wire_frames.specs.Frames.{PutsFront}
 use Rattle.wire_frames.specs.declared.exchange.Admission.TheVariants.{Acts, Repeats, Ignored}
@@ -17,7 +24,6 @@ use Rattle.fwu_wire.specs.{declared.stops.Taken.Taken, declared.server.Server.Se
 use Rattle.fwu_wire.specs.declared.replies.AgentReply.TheVariants as wire
 use Rattle.fwu_wire.specs.declared.stops.Stop.TheVariants as stop
 use Rattle.fwu_wire.specs.declared.stops.Taken.TheVariants as taken
-use Rattle.flash_core.specs.declared.flash.Flash.{Ghosts}
 
 -- ---- stops
 
@@ -64,7 +70,13 @@ IsQuietRequest f (Some (call.OpenRead guid)) = ⊤
 IsQuietRequest f (Some (call.OpenWrite guid)) = ⊤
 IsQuietRequest f (Some call.Cancel) = ⊤
 IsQuietRequest f (Some (call.Begin count)) = IsTrue (has_invalid_target f)
+IsQuietRequest f (Some (call.Write handle bytes)) =
+    (image : ℕ) × (handle_kept f.session (handle - 1) ≡ Writes image)
+    × (done_of (size_of (part_at f.session image) + length bytes) ≡ done_of (size_of (part_at f.session image)))
 IsQuietRequest f (Some (call.Commit handle request)) = (image : ℕ) → IsWriter f handle image → ⊥
+IsQuietRequest f (Some (call.Accepts guid)) =
+    (image : ℕ) × (find_image f.layout.rows guid ≡ Some image) × IsTrue (bit_at f.meta.meta f.meta.meta.active image)
+IsQuietRequest f (Some call.Previous) = IsFalse (may_try_kept f.meta.meta f.session f.boot)
 IsQuietRequest f other = ⊥
 
 -- how many bytes were read
@@ -79,24 +91,66 @@ LeavesBuffer at (Some (call.Read handle room)) why before after =
     (take at after ≡ take at before) × (drop (at + room) after ≡ drop (at + room) before)
 LeavesBuffer at asked why before after = after ≡ before
 
+-- ---- what an armed loss counts of a call, on any device
+
+-- these erases and programs were done, no other, and none of them was the armed one
+abbrev pub MakesWrites : {D : Type 0} {F : Ghosts D} → ℕ → Agent D F → Agent D F → Type 0
+MakesWrites {F = F} writes old new = SpendsArming {T = Unit {0}} (Ok tt) writes
+    (F.arming (device old)) (F.arming (device new)) (F.counts (device old)) (F.counts (device new))
+
+-- By the call, where it is done. A begin stores the metadata, or writes nothing where the update bank was invalid already. So do an
+-- acceptance and a going back, of which the metadata tells whether they stored. A write is of a handle that writes. What a read
+-- leaves is said apart, whatever comes of it. The calls that are not named did nothing.
+abbrev pub TakesIfDone : {D : Type 0} {F : Ghosts D} → Call → Agent D F → Agent D F → Type 0
+TakesIfDone {F = F} (call.Begin count) old new =
+    Takes (writes_to_begin (fields old)) (F.arming (device old)) (F.arming (device new))
+TakesIfDone (call.Write handle bytes) old new = let kept = (fields old).session in
+    (image : ℕ) × (handle_kept kept (handle - 1) ≡ Writes image)
+    × MakesWrites (writes_to_append (size_of (part_at kept image)) (length bytes)) old new
+TakesIfDone (call.Read handle room) old new = ⊤
+TakesIfDone (call.Commit handle request) old new = (image : ℕ) → IsWriter (fields old) handle image
+    → MakesWrites (writes_to_finish (size_of (part_at (fields old).session image))) old new
+TakesIfDone {F = F} call.End old new = TakesSwitch (F.arming (device old)) (F.arming (device new))
+TakesIfDone (call.Accepts guid) old new = SpendsStore (Ok tt) old new
+TakesIfDone call.Previous old new = SpendsStore (Ok tt) old new
+TakesIfDone other old new = device new ≡ device old
+
+-- and where it is refused: it did nothing, but that a going back may have read the device
+abbrev pub TakesIfRefused : {D : Type 0} {F : Ghosts D} → Call → Agent D F → Agent D F → Type 0
+TakesIfRefused {F = F} call.Previous old new = ReadsAlone {X = Unit {0}} F (Ok tt) (device old) (device new)
+TakesIfRefused other old new = device new ≡ device old
+
+abbrev pub TakesByReply : {D : Type 0} {F : Ghosts D} → Call → Reply → Agent D F → Agent D F → Type 0
+TakesByReply c (model.Refused st) old new = TakesIfRefused c old new
+TakesByReply c other old new = TakesIfDone c old new
+
+-- A read reads the device alone, also where the flash stops it: it reaches no armed loss.
+abbrev pub ReadsIfRead : {D T : Type 0} {F : Ghosts D} → Option Call → Result T Stop → Agent D F → Agent D F → Type 0
+ReadsIfRead {F = F} (Some (call.Read handle room)) result old new =
+    ReadsAlone F (flash_result (agent_stopped_by result)) (device old) (device new)
+ReadsIfRead other result old new = ⊤
+
 -- ---- a request that acts
 
 -- The message is that of the machine's reply to the call. A refusal leaves what the agent keeps.
-pub record RepliesToCall (passes : List ℕ → Bool) (c : Call) (bytes : List ℕ) (old new : Moment) : Type 0 where
+pub record RepliesToCall {D : Type 0} {F : Ghosts D} (passes : List ℕ → Bool) (c : Call) (bytes : List ℕ) (old new : Agent D F)
+    : Type 0 where
   pub reply : Reply
   pub message_is : bytes ≡ message reply
-  pub answers : AnswersCall passes c reply old new
-  pub refused : (st : Status) → reply ≡ model.Refused st → new.fields ≡ old.fields
+  pub answers : AnswersCall passes c reply (moment old) (moment new)
+  pub refused : (st : Status) → reply ≡ model.Refused st → fields new ≡ fields old
+  -- how many erases and programs were done
+  pub takes : TakesByReply c reply old new
 
 -- The message of the reply to a request: to its call; or that of a request for no call, which does nothing.
-abbrev pub RepliesTo : (List ℕ → Bool) → Option Call → List ℕ → Moment → Moment → Type 0
+abbrev pub RepliesTo : {D : Type 0} {F : Ghosts D} → (List ℕ → Bool) → Option Call → List ℕ → Agent D F → Agent D F → Type 0
 RepliesTo passes None bytes old new = (bytes ≡ message model.NotUnderstood) × (new ≡ old)
 RepliesTo passes (Some c) bytes old new = RepliesToCall passes c bytes old new
 
 -- what the flash has at any exit, and what a loss leaves of it
-abbrev pub LeavesBy : {T : Type 0} → Result T Stop → (List ℕ → Bool) → Option Call → Moment → Moment → Type 0
+abbrev pub LeavesBy : {D T : Type 0} {F : Ghosts D} → Result T Stop → (List ℕ → Bool) → Option Call → Agent D F → Agent D F → Type 0
 LeavesBy result passes None old new = new ≡ old
-LeavesBy result passes (Some c) old new = LeavesFlash (flash_result (agent_stopped_by result)) passes c old new
+LeavesBy result passes (Some c) old new = LeavesFlash (flash_result (agent_stopped_by result)) passes c (moment old) (moment new)
 
 -- ---- any request
 
@@ -117,7 +171,8 @@ GivesTaken Ignored number (Ok taken.Ignored) old new before after = (new ≡ old
 GivesTaken admitted number other old new before after = ⊥
 
 -- the frame of a request that acted is that of its reply
-abbrev pub IsReply : (List ℕ → Bool) → Option Call → ℕ → Result Taken Stop → List ℕ → Moment → Moment → Type 0
+abbrev pub IsReply : {D : Type 0} {F : Ghosts D} → (List ℕ → Bool) → Option Call → ℕ → Result Taken Stop → List ℕ
+    → Agent D F → Agent D F → Type 0
 IsReply passes asked number (Ok (taken.Reply n true)) after old new =
     (bytes : List ℕ) × (take n after ≡ frame (numbered number bytes)) × RepliesTo passes asked bytes old new
 IsReply passes asked number other after old new = ⊤

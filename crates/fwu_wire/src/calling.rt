@@ -1,10 +1,14 @@
 //! Calls of the agent, with their answers as replies.
 ghost use Rattle.std.specs.Prelude.{◌≡◌, ◌≤◌, ℕ, Bool, List, IsFalse, IfOk, IfErr, Some, Err, drop, length, ◌++◌};
 ghost use Rattle.agent_calls.specs.Shown.{AgentGoes, device, fields, gone, moment};
+ghost use Rattle.agent_calls.specs.Records.{ReadsAlone};
+ghost use Rattle.agent_machine.specs.Meets.{IsRefused, flash_result};
 ghost use Rattle.fwu_model.specs.Call as call;
 ghost use Rattle.fwu_wire.specs.Calls.{most_room, shown, AsksWithin, FitsFrame};
 ghost use Rattle.fwu_model.specs.Call.{open_call};
+ghost use Rattle.fwu_wire.specs.Replies.{replied};
 ghost use Rattle.fwu_wire.specs.Taken.{CallMeets, IsQuietRequest, LeavesBuffer, agents_answer, count_read, said};
+ghost use Rattle.fwu_wire.specs.Taken.{ReadsIfRead, TakesByReply, agent_stopped_by};
 
 use crate::calls::AgentCall;
 use crate::replies::AgentReply;
@@ -72,6 +76,8 @@ fn read<D: Flash>(agent: &mut Agent<D>, handle: u32, out: &mut [u8]) -> Result<A
         CallMeets passes (call.Read handle (length out.old)) result (out.new ++ behind)
         (moment agent.old) (moment agent.new) }
     ensures goes { AgentGoes (agents_answer result) agent.old agent.new }
+    ensures refused { IsRefused (agents_answer result) → agent.new ≡ agent.old }
+    ensures reads { ReadsAlone D.Flash (flash_result (agent_stopped_by result)) (device agent.old) (device agent.new) }
     ensures behind { IfOk result (λ r. drop (count_read r) out.new ≡ drop (count_read r) out.old) }
     ensures buffer { IfErr result (λ why. LeavesBuffer 0 (Some (call.Read handle (length out.old))) why out.old out.new) }
     ensures fits { IfOk result FitsFrame }
@@ -95,6 +101,9 @@ pub fn call_agent<D: Flash, V: Verifier>(
         CallMeets (V.passes verifier.now) (shown call.now) result out.new
         (moment agent.old) (moment agent.new) }
     ensures goes { AgentGoes (agents_answer result) agent.old agent.new }
+    ensures takes { IsFalse (gone agent.old) →
+        IfOk result (λ r. TakesByReply (shown call.now) (replied r out.new) agent.old agent.new) }
+    ensures reads { ReadsIfRead (Some (shown call.now)) result agent.old agent.new }
     ensures still { IsQuietRequest (fields agent.old) (Some (shown call.now)) → device agent.new ≡ device agent.old }
     ensures behind { IfOk result (λ r. drop (count_read r) out.new ≡ drop (count_read r) out.old) }
     ensures buffer { IfErr result (λ why. LeavesBuffer 0 (Some (shown call.now)) why out.old out.new) }

@@ -1,13 +1,13 @@
 //! The side that answers: the agent's calls, each once.
 ghost use Rattle.std.specs.Prelude.{◌≡◌, ◌≤◌, IsErr, IsFalse, IfOk, IfErr, drop, length, take};
-ghost use Rattle.agent_calls.specs.Shown.{AgentGoes, device, fields, gone, moment};
+ghost use Rattle.agent_calls.specs.Shown.{AgentGoes, device, fields, gone};
 ghost use Rattle.wire_frames.specs.Exchange.{admission, none_yet};
 ghost use Rattle.wire_frames.specs.Frames.{IsBody, PutsFront, message_of, request_number_of};
 ghost use Rattle.fwu_model.specs.Reply as model;
 ghost use Rattle.fwu_wire.specs.Calls.{asks};
 ghost use Rattle.fwu_wire.specs.Replies.{message};
 ghost use Rattle.fwu_wire.specs.Taken.{agent_of, exchange_of, GivesTaken, IsNextRequest, IsReply, LeavesBy, RepliesTo};
-ghost use Rattle.fwu_wire.specs.Taken.{IsQuietRequest, LeavesBuffer, agent_stopped_by};
+ghost use Rattle.fwu_wire.specs.Taken.{IsQuietRequest, LeavesBuffer, ReadsIfRead, agent_stopped_by};
 
 use crate::calling::call_agent;
 use crate::calls::call_of;
@@ -44,11 +44,10 @@ fn answer<D: Flash, V: Verifier>(
     requires some { 4 ≤ length message.now }
     requires room { 4104 ≤ length out.old }
     ensures replies { IsFalse (gone called.old) → IfOk result (λ n.
-        RepliesTo (V.passes verifier.now) (asks message.now) (take n out.new)
-        (moment called.old) (moment called.new)) }
+        RepliesTo (V.passes verifier.now) (asks message.now) (take n out.new) called.old called.new) }
+    ensures reads { ReadsIfRead (asks message.now) result called.old called.new }
     ensures leaves { IsFalse (gone called.old) →
-        LeavesBy result (V.passes verifier.now) (asks message.now)
-        (moment called.old) (moment called.new) }
+        LeavesBy result (V.passes verifier.now) (asks message.now) called.old called.new }
     ensures some { IfOk result (λ n. 4 ≤ n) }
     ensures few { IfOk result (λ n. n ≤ 4104) }
     ensures behind { IfOk result (λ n. drop n out.new ≡ drop n out.old) }
@@ -105,10 +104,11 @@ impl<D: Flash> Server<D> {
             out.old out.new }
         ensures reply { IsFalse (gone (agent_of self.old)) →
             IsReply (V.passes verifier.now) (asks message.now) number result out.new
-            (moment (agent_of self.old)) (moment (agent_of self.new)) }
+            (agent_of self.old) (agent_of self.new) }
+        ensures reads { ReadsIfRead (asks message.now) result (agent_of self.old) (agent_of self.new) }
         ensures leaves { IsFalse (gone (agent_of self.old)) →
             LeavesBy result (V.passes verifier.now) (asks message.now)
-            (moment (agent_of self.old)) (moment (agent_of self.new)) }
+            (agent_of self.old) (agent_of self.new) }
         ensures goes { AgentGoes (agent_stopped_by result) (agent_of self.old) (agent_of self.new) }
         ensures quiet { IsQuietRequest (fields (agent_of self.old)) (asks message.now) →
             device (agent_of self.new) ≡ device (agent_of self.old) }
@@ -147,16 +147,19 @@ impl<D: Flash> Server<D> {
         ensures buffer { IfErr result (λ why.
             LeavesBuffer 16 (asks (message_of request.now)) why out.old out.new) }
         // On any device, of an agent that isn't gone: the reply to a request that acted is the machine's. (The bytes that are read,
-        // and whether `previous` goes back, are so where the device tells its content.)
+        // and whether `previous` goes back, are so where the device tells its content.) And by the reply: how much nearer the call
+        // brings an armed loss.
         ensures reply { IsFalse (gone (agent_of self.old)) →
             IsReply (V.passes verifier.now) (asks (message_of request.now))
-            (request_number_of request.now) result out.new
-            (moment (agent_of self.old)) (moment (agent_of self.new)) }
+            (request_number_of request.now) result out.new (agent_of self.old) (agent_of self.new) }
+        // On any device, at any exit: a read reaches no armed loss.
+        ensures reads { IsNextRequest (exchange_of self.old) request.now →
+            ReadsIfRead (asks (message_of request.now)) result (agent_of self.old) (agent_of self.new) }
         // What the flash has after one that acts, whatever a loss leaves, and what each call promises,
         ensures leaves { IsFalse (gone (agent_of self.old)) →
             IsNextRequest (exchange_of self.old) request.now →
             LeavesBy result (V.passes verifier.now) (asks (message_of request.now))
-            (moment (agent_of self.old)) (moment (agent_of self.new)) }
+            (agent_of self.old) (agent_of self.new) }
         ensures goes { IsNextRequest (exchange_of self.old) request.now →
             AgentGoes (agent_stopped_by result) (agent_of self.old) (agent_of self.new) }
         // and that no other touches the agent.

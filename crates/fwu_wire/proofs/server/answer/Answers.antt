@@ -1,7 +1,7 @@
 use Rattle.std.proofs.Common.{◌≤◌, ◌∙◌, ℕ, List, Option, Some, length, take, drop, ap, subst, arith}
 use Rattle.std.proofs.lemmas.List.{length-drop, take_rest}
 use Rattle.fwu_model.specs.Call.{Call}
-use Rattle.agent_calls.specs.Shown.{agent_at, moment}
+use Rattle.agent_calls.specs.Shown.{agent_at}
 use Rattle.fwu_wire.specs.{Calls.shown, Replies.message, Replies.replied, Taken.LeavesBuffer, Taken.RepliesTo, Taken.count_read}
 use Rattle.fwu_wire.proofs.{Buffers.over-eight, Buffers.reply-over, Buffers.stops-over, Meeting.goes-told, Meeting.refused-by, Written.behind-eight}
 use Rattle.fwu_wire.proofs.server.answer.Goals as goal
@@ -11,11 +11,12 @@ returns-in-Ok-clause-replies g c live =
     let reply = c.in-Ok.reply in
     let out = c.call_agent.new.out in
     let room : 8 ≤ length c.args.out.now = omega (arith, c.requires.room) in
-    subst (λ (asked : Option Call). RepliesTo (g.V.Verifier.passes c.args.verifier.now) asked (take c.put_reply.result c.put_reply.new.out) (moment c.args.called.now) (moment c.call_agent.new.agent)) c.in-Some.ensures.call (record {
+    subst (λ (asked : Option Call). RepliesTo (g.V.Verifier.passes c.args.verifier.now) asked (take c.put_reply.result c.put_reply.new.out) c.args.called.now c.call_agent.new.agent) c.in-Some.ensures.call (record {
       reply = replied reply out;
       message_is = c.put_reply.ensures.puts.front ∙ ap (λ (bytes : List ℕ). message (replied reply bytes)) (behind-eight c.args.out.now out room);
       answers = (c.in-Ok.ensures.meets live).answers;
       refused = refused-by (agent_at c.args.called.now) (agent_at c.call_agent.new.agent) reply out c.in-Ok.ensures.goes;
+      takes = c.in-Ok.ensures.takes live;
     })
 
 pub returns-in-Ok-clause-behind : goal.returns-in-Ok-clause-behind
