@@ -1,8 +1,8 @@
 -- A serving that begins, with one turn more, and one request that acts.
 use Rattle.std.proofs.Common.{◌≡◌, ℕ, Bool, false, cond, List, ◌∷◌, ◌++◌, Option, Ok, Err, Result, None, refl, sym, ap, subst, ◌∙◌, arith, IsFalse, append_assoc, [], ◌+◌, take, inl, inr}
-use Rattle.std.specs.Prelude.{◌||◌, IfErr, IfOk, Contains}
+use Rattle.std.specs.Prelude.{◌||◌, IfErr, IfOk, All}
 use Rattle.std.specs.{List.list_any, Io.KnownBytes.Appends}
-use Rattle.std.proofs.lemmas.List.Elements.{Contains-push_cases}
+use Rattle.std.proofs.lemmas.List.Elements.{All-cons, All-nil}
 use Rattle.std.proofs.{lemmas.List.Folds.list_any-append, lemmas.List.Sums.sum_by-append, KnownBytes.Appends-nil}
 use Rattle.host_io.specs.{Contents.Directory, Calls.raised, Printed.all, Printed.front, Printed.nothing}
 use Rattle.fwu_model.specs.{Call.Call, Reply.Reply, Reply.Turn, Run.ends_run, Run.is_send}
@@ -35,16 +35,12 @@ goes-none files was are c any none unread is = refl
 
 -- ---- the journal
 
+-- it went on behind this turn
+abbrev pub Goes : Turn → Type 0
+Goes t = end_by t.reply ≡ Ok tt
+
 pub any-more : {X : Type 0} (p : X → Bool) (xs : List X) (x : X) → IsFalse (list_any p xs) → IsFalse (p x) → IsFalse (list_any p (xs ++ x ∷ []))
 any-more p xs x none is = list_any-append p xs (x ∷ []) ∙ ap (λ (b : Bool). b || (p x || false)) none ∙ ap (λ (b : Bool). b || false) is
-
--- behind each turn it went on, with one turn more
-pub goes-more : (journal : List Turn) (t : Turn) → ((u : Turn) → Contains journal u → end_by u.reply ≡ Ok tt) → end_by t.reply ≡ Ok tt
-    → (u : Turn) → Contains (journal ++ t ∷ []) u → end_by u.reply ≡ Ok tt
-goes-more journal t before goes u has = elim (Contains-push_cases journal t u has) [
-  | inl earlier ↦ before u earlier
-  | inr same ↦ ap (λ (x : Turn). end_by x.reply) (sym same) ∙ goes
-]
 
 pub uncut-more : (journal : List Turn) (t : Turn) → cuts_in journal ≡ 0 → IsFalse (is_cut t.call) → cuts_in (journal ++ t ∷ []) ≡ 0
 uncut-more journal t none uncut =
@@ -115,7 +111,7 @@ module _ (E : Scene) (start : TurnMoment) (sink : Port) (off : start.on ≡ None
       record {
         turns = [];
         journal_is = one.kept;
-        goes = λ u has. goes-more [] t (λ v none. let below = none.1 in absurd (omega (arith, below))) goes u (subst (λ (j : List Turn). Contains j u) one.kept has);
+        goes = subst (All Goes) (sym one.kept) (All-cons Goes t [] goes (All-nil Goes));
         ran = stands.ran;
         none = subst (λ (j : List Turn). list_any (λ (u : Turn). ends_run u.reply) j ≡ false) (sym one.kept)
             (ap (λ (b : Bool). b || false) (goes-none E.files E.faults E.faults call.Boot t.reply refl one.turns.unread goes));

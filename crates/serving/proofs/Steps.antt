@@ -1,8 +1,8 @@
 -- The requests of a source, one more of them, and all so far.
-use Rattle.std.proofs.Common.{◌≡◌, ℕ, ◌+◌, ◌-◌, ◌≤◌, Bool, true, false, not, ◌&&◌, ◌==◌, cond, IsTrue, List, ◌∷◌, ◌++◌, length, map, suc, get_or, refl, sym, ap, subst, ◌∙◌, arith, append_assoc, append-nil, [], Ok, Result, None, Err, length-append, Contains}
+use Rattle.std.proofs.Common.{◌≡◌, ℕ, ◌+◌, ◌-◌, ◌≤◌, Bool, true, false, not, ◌&&◌, ◌==◌, cond, IsTrue, List, ◌∷◌, ◌++◌, length, map, suc, get_or, refl, sym, ap, subst, ◌∙◌, arith, append_assoc, append-nil, [], Ok, Result, None, Err, length-append, All}
 use Rattle.std.proofs.lemmas.Bool.{and_parts, eqb-false, eqb-true, not-true}
 use Rattle.std.proofs.lemmas.List.{get_or_append_left, get_or_push, length_push, length-map, map_push}
-use Rattle.std.proofs.lemmas.List.Concat.{flat_map-append}
+use Rattle.std.proofs.lemmas.List.{Concat.flat_map-append, Elements.All-nil, Elements.All-push}
 use Rattle.std.proofs.KnownBytes.{Appends-trans, Consumes-nil, Consumes-trans}
 use Rattle.wire_frames.specs.{declared.exchange.Admission.Admission, declared.stream.FrameStop.FrameStop}
 use Rattle.wire_frames.specs.Exchange.{admission, LastAnswer}
@@ -18,7 +18,7 @@ use Rattle.serving.specs.Written.{acting, answered_numbers, frame_of, messages_o
 use Rattle.serving.specs.Serving.{OneReply, ServesAgain, ServesBy, ServesNew, ServesOne, answered, stopped}
 use Rattle.serving.specs.{Going.ServesRequests, Going.GoesOn, Going.ServeEnds, Scene.At, Scene.RunAt, Scene.Scene, Scene.Port}
 use Rattle.serving.specs.{declared.ends.ServeEnd.ServeEnd, Ends.IsEarlyEnd, Ends.end_of_stop}
-use Rattle.serving.proofs.Starts.{Stands, any-more, goes-more, goes-none, put-all, stands-on, stands-still}
+use Rattle.serving.proofs.Starts.{Goes, Stands, any-more, goes-none, put-all, stands-on, stands-still}
 
 -- ---- what is done for requests, with one request more
 
@@ -176,7 +176,7 @@ module _ (E : Scene) (first : List Turn) (start : TurnMoment) (off : start.on �
       record {
         turns = was.turns;
         journal_is = same ∙ was.journal_is;
-        goes = λ t has. was.goes t (subst (λ (j : List Turn). Contains j t) same has);
+        goes = subst (All Goes) (sym same) was.goes;
         ran = stands.ran;
         none = ap (list_any (λ (t : Turn). ends_run t.reply)) same ∙ was.none;
         uncut = stands.uncut;
@@ -235,7 +235,7 @@ module _ (E : Scene) (first : List Turn) (start : TurnMoment) (off : start.on �
       record {
         turns = was.turns ++ t ∷ [];
         journal_is = did.kept ∙ ap (λ (j : List Turn). j ++ t ∷ []) was.journal_is ∙ append_assoc first was.turns (t ∷ []);
-        goes = λ u has. goes-more mid.run.journal t was.goes one.goes u (subst (λ (j : List Turn). Contains j u) did.kept has);
+        goes = subst (All Goes) (sym did.kept) (All-push Goes mid.run.journal t was.goes one.goes);
         ran = stands.ran;
         none = ap (list_any (λ (u : Turn). ends_run u.reply)) did.kept ∙ any-more (λ (u : Turn). ends_run u.reply) mid.run.journal t was.none goes;
         uncut = stands.uncut;
@@ -266,10 +266,6 @@ module _ (E : Scene) (first : List Turn) (start : TurnMoment) (off : start.on �
 
 -- ---- what a serving's loop keeps
 
-bodies-more : (bodies : List (List ℕ)) (body : List ℕ) → AreBodies bodies → IsBody body → AreBodies (bodies ++ body ∷ [])
-bodies-more [] body each is = (is, tt)
-bodies-more (b ∷ bodies) body each is = (each.0, bodies-more bodies body each.1 is)
-
 frames-more : (bodies : List (List ℕ)) (body : List ℕ) → frames (bodies ++ body ∷ []) ≡ frames bodies ++ frame body
 frames-more bodies body = flat_map-append frame bodies (body ∷ []) ∙ ap (λ (l : List ℕ). frames bodies ++ l) (append-nil (frame body))
 
@@ -285,7 +281,7 @@ pub record SoFar (E : Scene) (old now : At) (from to : Port) (read : ℕ) : Type
 
 module _ (E : Scene) (old : At) (from : Port) where
   pub so-far-none : (read : ℕ) → read ≡ 0 → read ≤ most_bytes → SoFar E old old from from read
-  so-far-none read is few = record { bodies = []; each = tt; consumed = Consumes-nil from.bytes; count = is; few = few; quiet = refl; goes = λ first start off none. none }
+  so-far-none read is few = record { bodies = []; each = All-nil IsBody; consumed = Consumes-nil from.bytes; count = is; few = few; quiet = refl; goes = λ first start off none. none }
 
   module _ (now : At) (mid : Port) (read : ℕ) (was : SoFar E old now from mid read) where
     -- the frame of one body more
@@ -300,7 +296,7 @@ module _ (E : Scene) (old : At) (from : Port) where
       pub so-far-more : (new : At) (result : Result (Unit {0}) ServeEnd) → rest.faults ≡ mid.faults → reads ≤ most_bytes → ServesOne E body now new result → result ≡ Ok tt → SoFar E old new from rest reads
       so-far-more new result quiet few serves goes = record {
         bodies = was.bodies ++ body ∷ [];
-        each = bodies-more was.bodies body was.each frame_is.is;
+        each = All-push IsBody was.bodies body was.each frame_is.is;
         consumed = consumed-more;
         count = count-more;
         few = few;
@@ -311,7 +307,7 @@ module _ (E : Scene) (old : At) (from : Port) where
       pub ends-at : (new : At) (e : ServeEnd) → rest.faults ≡ mid.faults → reads ≤ most_bytes → ServesOne E body now new (Err e) → IsEarlyEnd e → GoesOn E old new e from rest
       ends-at new e quiet few serves early first start off none =
           ServeEnds.at_a_request was.bodies body now (was.goes first start off none)
-          (record { each = bodies-more was.bodies body was.each frame_is.is; consumed = consumed-more; few = subst (λ (n : ℕ). n ≤ most_bytes) count-more few })
+          (record { each = All-push IsBody was.bodies body was.each frame_is.is; consumed = consumed-more; few = subst (λ (n : ℕ). n ≤ most_bytes) count-more few })
           (quiet ∙ was.quiet) serves early
 
     pub ends-there : (rest : Port) (taken : ℕ) (e : ServeEnd) (why : FrameStop) → StopsReading why read taken mid.bytes rest.bytes → taken ≤ most_bytes → rest.faults ≡ stop_faults {T = ℕ} (Err why) mid.faults → mid.faults ≤ rest.faults

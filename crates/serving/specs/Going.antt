@@ -1,5 +1,5 @@
 -- The requests of a source so far, and how a serving ends.
-use Rattle.std.specs.Prelude.{◌≡◌, ◌≤◌, ℕ, List, ◌∷◌, ◌++◌, Option, None, Err, IsFalse, length, Result, Ok, [], Contains}
+use Rattle.std.specs.Prelude.{◌≡◌, ◌≤◌, ℕ, List, ◌∷◌, ◌++◌, Option, None, Err, IsFalse, length, Result, Ok, [], All}
 use Rattle.std.specs.{List.list_any, Io.KnownBytes.Appends, Io.KnownBytes.Consumes}
 use Rattle.fwu_model.specs.{Causes.cuts_in, Reply.Turn, Run.ends_run}
 use Rattle.script_turns.specs.Powered.{TurnMoment}
@@ -18,7 +18,7 @@ pub record ServesRequests (E : Scene) (first : List Turn) (start : TurnMoment) (
   pub turns : List Turn
   pub journal_is : new.run.journal ≡ first ++ turns
   -- behind each turn it went on: none is a loss of power
-  pub goes : (t : Turn) → Contains new.run.journal t → end_by t.reply ≡ Ok tt
+  pub goes : All (λ t. end_by t.reply ≡ Ok tt) new.run.journal
   pub ran : RanIn E new.run.journal start new.run.moment
   pub none : IsFalse (list_any (λ (t : Turn). ends_run t.reply) new.run.journal)
   -- no turn armed a loss of power
