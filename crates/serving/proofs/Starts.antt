@@ -1,5 +1,5 @@
 -- A serving that begins, with one turn more, and one request that acts.
-use Rattle.std.proofs.Common.{◌≡◌, ℕ, Bool, false, cond, List, ◌∷◌, ◌++◌, Option, Ok, Err, Result, None, refl, sym, ap, subst, ◌∙◌, arith, IsFalse, append_assoc, [], ◌+◌, take, inl, inr}
+use Rattle.std.proofs.Common.{◌≡◌, ℕ, Bool, false, cond, List, ◌∷◌, ◌++◌, Option, Ok, Err, Result, None, refl, sym, ap, subst, ◌∙◌, arith, IsFalse, append_assoc, [], ◌+◌, take}
 use Rattle.std.specs.Prelude.{◌||◌, IfErr, IfOk, All}
 use Rattle.std.specs.{List.list_any, Io.KnownBytes.Appends}
 use Rattle.std.proofs.lemmas.List.Elements.{All-cons, All-nil}
