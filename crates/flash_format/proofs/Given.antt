@@ -9,7 +9,7 @@ use Rattle.fwu_formats.specs.{declared.kinds.LayoutFault.LayoutFault}
 use Rattle.fwu_model.specs.Answer.{images_of}
 use Rattle.fwu_formats.proofs.SealLaws.{was_not_refused}
 use Rattle.meta_layout.specs.Rows.{fitted}
-use Rattle.flash_format.specs.{Formatted.HoldsImages, Places.AllStand, Planned.IsPlan, Stops.FormatFinishes, Stops.IsOfBytes}
+use Rattle.flash_format.specs.{Formatted.HoldsImages, Places.AllStand, Choosing.IsPlan, Stops.FormatFinishes, Stops.IsOfBytes}
 use Rattle.flash_format.specs.{declared.stops.FormatStop.FormatStop, declared.stops.FormatStop.TheVariants.Input}
 use Rattle.flash_format.specs.declared.stops.InputFault.TheVariants.{Incomplete, Layout as BadLayout}
 use Rattle.flash_format.proofs.{Plans.bank_within, Plans.same_ok, Formats.holds_images}

@@ -9,7 +9,7 @@ use Rattle.fip_tables.specs.{Files.Lacks, Files.Tells, Images.AreImages}
 use Rattle.image_check.proofs.OfBank.{bank_fits}
 use Rattle.fwu_formats.proofs.{SealLaws.limits, Tables.ends-within}
 use Rattle.std.specs.Prelude.{IsTrue}
-use Rattle.flash_format.specs.Planned.{IsPlan}
+use Rattle.flash_format.specs.Choosing.{IsPlan}
 use Rattle.fip_tables.proofs.Chosen.{chosen_have}
 
 pub same_ok : {X F : Type 0} (x y : X) → ◌≡◌ {A = Result X F} (Ok x) (Ok y) → x ≡ y

@@ -4,7 +4,7 @@ use Rattle.std.proofs.lemmas.List.Sums.{sum_by-cons, sum_by_more}
 use Rattle.std.proofs.lemmas.List.{take_all}
 use Rattle.fwu_formats.specs.{Layout.ImageRow, Layout.slot_total, Package.Entry, Layout.no_row}
 use Rattle.fip_tables.specs.Images.{no_entry}
-use Rattle.flash_format.specs.Planned.{pieces_in, block_pieces_of}
+use Rattle.flash_format.specs.Choosing.{pieces_in, block_pieces_of}
 
 -- one image more
 pub pieces_more : (entries : List Entry) (k : ℕ) → k < length entries → pieces_in (take (k + 1) entries) ≡ pieces_in (take k entries) + block_pieces_of (get_or entries k no_entry).size

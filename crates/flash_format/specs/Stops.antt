@@ -1,15 +1,16 @@
--- Why a step stopped.
-use Rattle.std.specs.Prelude.{◌≡◌, ◌⊎◌, ◌+◌, ◌<◌, ◌≤◌, ◌^◌, ⊤, ℕ, Bool, false, List, Option, Some, None, Result, Ok, Err, length}
-use Rattle.base_core.specs.Counts.{Rose}
+-- Why a step stopped, and what a step that writes leaves.
+use Rattle.std.specs.Prelude.{◌≡◌, ◌⊎◌, ◌+◌, ◌<◌, ◌≤◌, ◌^◌, ⊤, ℕ, Bool, false, List, Option, Some, None, Result, Ok, Err, OnOk, IsTrue, length}
+use Rattle.base_core.specs.{Block.block_bytes, Counts.Rose}
 use Rattle.host_io.specs.{Contents.Directory, Reads.ReadsFile, declared.files.Files.Ghosts}
 use Rattle.fip_tables.specs.Files.{Lacks, Tells}
 use Rattle.image_check.specs.{Law.verdict_may_start, Passed.HasPassed, declared.bank.Verdict.Verdict}
 use Rattle.meta_layout.specs.Rows.{fitted}
-use Rattle.flash_core.specs.declared.flash.FlashStop.{FlashStop}
+use Rattle.flash_core.specs.declared.flash.Flash as flash
+use Rattle.flash_core.specs.{declared.flash.FlashStop.FlashStop, Calls.Goes, Counts.lowered_by, May.Keeps, Touches.TouchesOnly}
 use Rattle.fwu_formats.specs.{Layout.ImageRow, Layout.Layout, Package.toc_of, Package.Toc, declared.kinds.FipFault.FipFault}
 use Rattle.fwu_formats.specs.declared.kinds.LayoutFault.{LayoutFault}
 use Rattle.flash_format.specs.{declared.stops.InputFault.InputFault, declared.stops.FormatStop.FormatStop}
-use Rattle.flash_format.specs.Choosing.{refusal, refusal_by}
+use Rattle.flash_format.specs.{Choosing.refusal, Choosing.refusal_by, Places.IsBare, Places.LeavesNoMore, Places.OnlyErased}
 use Rattle.flash_format.specs.declared.stops.InputFault.TheVariants.{Layout as BadLayout, Package, Incomplete}
 use Rattle.flash_format.specs.declared.stops.FormatStop.TheVariants.{Input, ReadFailed, Flash}
 
@@ -112,3 +113,31 @@ IsTableRead answer (Ok toc) = answer ≡ Ok toc
 IsTableRead answer (Err (Input (Package fault))) = answer ≡ Err fault
 IsTableRead answer (Err ReadFailed) = ⊤
 IsTableRead answer other = ⊥
+
+-- ---- what writing to a flash leaves, at any exit
+
+-- Power is on, and the device has at least so many blocks.
+pub record IsReadyDevice {D : Type 0} (g : flash.Ghosts D) (blocks : ℕ) (device : D) : Type 0 where
+  pub on : IsTrue (g.on device)
+  pub room : blocks ≤ g.blocks device
+
+-- Programs of images into erased blocks, from one of them on, in the bytes from one place to before another.
+pub record WritesImages {D T : Type 0} (g : flash.Ghosts D) (first low high count : ℕ)
+    (result : Result T FormatStop) (old new : D) : Type 0 where
+  -- Outside these bytes nothing changes.
+  pub keeps : IsTrue g.tells → Keeps low high (g.told old) (g.told new)
+  -- Of the blocks before the first one a loss leaves no more than before.
+  pub left : IsTrue g.tells → LeavesNoMore first (g.told old) (g.told new)
+  pub goes : Goes g (flash_result result) old new
+  -- On every device: so many programs, when done.
+  pub spent : OnOk result (g.arming new ≡ lowered_by count (g.arming old))
+  -- On every device: no other block is erased or programmed.
+  pub touches : TouchesOnly low high (g.writes old) (g.writes new)
+  pub stops : RefusesNothing result
+
+-- Erases that begin with block 0, and programs behind the first blocks.
+pub record ClearsFirst {D : Type 0} (g : flash.Ghosts D) (old new : D) : Type 0 where
+  -- Nothing is in the first blocks that wasn't there.
+  pub only : IsTrue g.tells → OnlyErased (g.told old) (g.told new)
+  -- Until block 0 is bare no other block is touched.
+  pub first : IsTrue g.tells → Keeps 0 block_bytes (g.told old) (g.told new) ⊎ IsBare (g.told new)

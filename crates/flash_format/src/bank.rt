@@ -4,9 +4,9 @@ ghost use Rattle.base_core.specs.Block.{block_bytes};
 ghost use Rattle.fwu_formats.specs.Layout.{blocks_needed, slot_total};
 ghost use Rattle.fip_tables.specs.Files.{Tells};
 ghost use Rattle.flash_format.specs.Places.{Erased, AllStand};
-ghost use Rattle.flash_format.specs.Planned.{IsPlan, pieces_in};
+ghost use Rattle.flash_format.specs.Choosing.{IsPlan, pieces_in};
 ghost use Rattle.flash_format.specs.Stops.{ReadsPackage};
-ghost use Rattle.flash_format.specs.Writes.{IsReadyDevice, WritesImages};
+ghost use Rattle.flash_format.specs.Stops.{IsReadyDevice, WritesImages};
 
 use crate::images::write_image;
 use crate::stops::FormatStop;

@@ -3,7 +3,7 @@ ghost use Rattle.std.specs.Prelude.{◌-◌, ◌*◌, ◌≤◌, IsTrue, OnOk};
 ghost use Rattle.base_core.specs.Block.{block_bytes};
 ghost use Rattle.flash_core.specs.Told.{NothingDirty};
 ghost use Rattle.flash_format.specs.Places.{IsBare, OnlyErased, Erased};
-ghost use Rattle.flash_format.specs.Writes.{ClearsFirst, IsReadyDevice};
+ghost use Rattle.flash_format.specs.Stops.{ClearsFirst, IsReadyDevice};
 ghost use Rattle.flash_core.specs.Calls.{WritesWithin};
 
 use flash_core::{Flash, FlashStop};

@@ -14,10 +14,10 @@ ghost use Rattle.meta_layout.specs.Rows.{fitted};
 ghost use Rattle.fip_tables.specs.Files.{Lacks, Tells};
 ghost use Rattle.flash_format.specs.Formatted.{asked_layout, HasAtMost, HoldsImages, IsBlank, IsInOrder, IsMade, IsOrdered, IsRefusedFormat, IsUnlaid, IsWholeFormat};
 ghost use Rattle.flash_format.specs.Places.{Erased};
-ghost use Rattle.flash_format.specs.Planned.{IsFilled, IsPlan, FormatTakes, writes_to_format};
+ghost use Rattle.flash_format.specs.Choosing.{IsFilled, IsPlan, FormatTakes, writes_to_format};
 ghost use Rattle.flash_format.specs.Stops.{flash_result, FormatFinishes, IfRefused, IsByVerdict, IsEarlyStop, IsOfLayout, ReadsPackage, RefusesInput, StopsEarly};
 ghost use Rattle.flash_format.specs.declared.stops.FormatStop.TheVariants.{ReadFailed as FileFailed};
-ghost use Rattle.flash_format.specs.Writes.{IsReadyDevice};
+ghost use Rattle.flash_format.specs.Stops.{IsReadyDevice};
 
 use crate::plan::Plan;
 use crate::planning::plan;

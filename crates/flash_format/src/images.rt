@@ -6,9 +6,9 @@ ghost use Rattle.fwu_formats.specs.Package.{payload};
 ghost use Rattle.host_io.specs.Reads.{ReadsFile};
 ghost use Rattle.fip_tables.specs.Files.{Tells};
 ghost use Rattle.flash_format.specs.Places.{Erased, HoldsThenErased};
-ghost use Rattle.flash_format.specs.Planned.{IsStored, block_pieces_of};
+ghost use Rattle.flash_format.specs.Choosing.{IsStored, block_pieces_of};
 ghost use Rattle.flash_format.specs.Stops.{ReadsPackage};
-ghost use Rattle.flash_format.specs.Writes.{IsReadyDevice, WritesImages};
+ghost use Rattle.flash_format.specs.Stops.{IsReadyDevice, WritesImages};
 
 use crate::stops::FormatStop;
 use base_core::{BLOCK_BYTES, GRANULE_BYTES};

@@ -5,7 +5,7 @@ ghost use Rattle.meta_layout.specs.Rows.{fitted};
 ghost use Rattle.fip_tables.specs.Files.{Lacks, Tells};
 ghost use Rattle.flash_format.specs.Choosing.{refusal_by};
 ghost use Rattle.flash_format.specs.Formatted.{asked_layout};
-ghost use Rattle.flash_format.specs.Planned.{IsPlan};
+ghost use Rattle.flash_format.specs.Choosing.{IsPlan};
 ghost use Rattle.flash_format.specs.Stops.{RefusesAs, IsOfBytes, IsOfLayout, ReadsPackage, RefusesInput, StopsEarly};
 ghost use Rattle.flash_format.specs.declared.stops.FormatStop.TheVariants.{ReadFailed as FileFailed};
 

@@ -8,7 +8,7 @@ ghost use Rattle.fwu_formats.specs.Image.{layout_seen};
 ghost use Rattle.fwu_formats.specs.Metadata.{first_meta, replica_bytes};
 ghost use Rattle.flash_format.specs.Formatted.{HasAtMost, HoldFirst, IsOrdered, IsSpelled};
 ghost use Rattle.flash_format.specs.Places.{Erased};
-ghost use Rattle.flash_format.specs.Writes.{IsReadyDevice};
+ghost use Rattle.flash_format.specs.Stops.{IsReadyDevice};
 ghost use Rattle.flash_core.specs.Calls.{WritesWithin};
 
 use base_core::BLOCK_BYTES;

@@ -10,9 +10,9 @@ ghost use Rattle.image_check.specs.Passed.{HasPassed};
 ghost use Rattle.image_check.specs.Verdict.{verdict_on};
 ghost use Rattle.image_check.specs.declared.bank.Verdict.TheVariants.{Good};
 ghost use Rattle.flash_format.specs.Places.{IsBare, Erased};
-ghost use Rattle.flash_format.specs.Planned.{IsFilled, IsPlan, pieces_in};
+ghost use Rattle.flash_format.specs.Choosing.{IsFilled, IsPlan, pieces_in};
 ghost use Rattle.flash_format.specs.Stops.{flash_result, IfRefused, IsByVerdict, ReadsPackage, RefusesNothing, StopsEarly};
-ghost use Rattle.flash_format.specs.Writes.{ClearsFirst, IsReadyDevice};
+ghost use Rattle.flash_format.specs.Stops.{ClearsFirst, IsReadyDevice};
 
 use crate::bank::write_bank;
 use crate::erasing::erase_all;

@@ -19,7 +19,7 @@ use Rattle.early_boot.specs.Started.{Started, started_session}
 use Rattle.early_boot.specs.Ends.{Ended, booted, bad_layout, no_metadata, no_bank, lost, failed, stop_of}
 use Rattle.early_boot.specs.EndsBy.{BootEnds, EndsByBytes, EndsByMachine, IdleEnd, StartsReady, StopsWith, StartedBy, StartsPermitted, TakesBoot, TakesByBytes, TouchesBoot}
 use Rattle.script_turns.specs.{Powered.TurnMoment, Powered.IsAt, Powered.IsSafe, Powered.ShowsAt, Boots.BootsFrom, Replies.LeavesOn}
-use Rattle.script_turns.specs.{Replies.power_after, Takes.TakesBy, Takes.stop_told, Touches.TouchesByBoot}
+use Rattle.script_turns.specs.{Replies.power_after, Takes.TakesBy, Takes.stop_told, Takes.TouchesByBoot}
 use Rattle.script_turns.specs.Turning.{NoneFalls, Turns, GetsPower, IsOnAfter, ShowsStarted, boot_turn, reply_of_end}
 use Rattle.script_turns.proofs.{RunTurns.rose-after, RunTurns.rose-before}
 use Rattle.script_turns.proofs.Staying.{Leads, as-told, among, falls-same, safe-by, same-guards}

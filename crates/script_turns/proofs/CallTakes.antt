@@ -16,7 +16,7 @@ use Rattle.agent_calls.specs.{Metas.meta_begun, declared.agent.Agent.Agent, Show
 use Rattle.agent_calls.proofs.Taking.{takes-begin as takes-a-begin}
 use Rattle.agent_machine.specs.Meets.{IsDone, IsRefused, flash_result}
 use Rattle.script_turns.specs.Powered.{TurnMoment, SameDevice, moment_on}
-use Rattle.script_turns.specs.{Takes.ReadsBy, Takes.TakesOn, Calls.is_there, Calls.reply_by, Stage.on_where}
+use Rattle.script_turns.specs.{Takes.ReadsBy, Takes.TakesOn, Replies.is_there, Replies.reply_by, Stage.on_where}
 
 -- what an agent keeps, where it is there afterwards
 abbrev pub on_by : {T : Type 0} → Result T Stop → Fields → Option Fields

@@ -29,8 +29,8 @@ use Rattle.agent_machine.specs.Meets.{Answers, IsDone, IsSettingOf, LeavesFlash,
 use Rattle.agent_calls.specs.AnswersCall.{AnswersCall, GoesBackBy, IsDecided, IsPreviousCall, IsReplyOf, PermitsBack}
 use Rattle.script_turns.specs.Powered.{TurnMoment, IsAt, IsSafe, at, kept_at}
 use Rattle.script_turns.specs.Replies.{AnswersBegin, AnswersTo, CallSays, IsFlashStop, Replies, power_after}
-use Rattle.script_turns.specs.{Takes.TakesOn, Takes.stop_told, Calls.is_agents, Calls.is_composed, Calls.reply_by}
-use Rattle.script_turns.specs.{Touches.DecidesAfter, Touches.IsMetaAfter, Turning.Turns, Turning.quiet_turn}
+use Rattle.script_turns.specs.{Takes.TakesOn, Takes.stop_told, Replies.is_agents, Replies.is_composed, Replies.reply_by}
+use Rattle.script_turns.specs.{Takes.DecidesAfter, Takes.IsMetaAfter, Turning.Turns, Turning.quiet_turn}
 use Rattle.script_turns.proofs.{CallTakes.on_by, Quiets.lacks-none, Touching.touches-called}
 use Rattle.script_turns.proofs.Staying.{among, makes-none, needs-agent, never-boots, never-cuts, no-numbers, no-stop, safe-by, same-guards, as-told, shows-as, told-shows}
 

@@ -21,9 +21,9 @@ use Rattle.agent_calls.specs.{GoneBack.SomePassed, Shown.AgentGoes, Shown.device
 use Rattle.fwu_journal.specs.Shown.{IsShortReply, turn}
 use Rattle.script_text.specs.Shown.{shown}
 use Rattle.script_text.specs.declared.call.Call.TheVariants as variant
-use Rattle.script_turns.specs.{Touches.IsMetaAfter, Powered.TurnMoment, Powered.SameDevice, Stage.on_where, Takes.TakesOn}
-use Rattle.script_turns.specs.{Calls.is_there, Calls.moment_where, Calls.reply_by, Turned.IsCallTurn}
-use Rattle.script_turns.specs.{Turned.LeavesAgent, Turning.Turns, Turning.quiet_turn, declared.turned.AgentTurn.AgentTurn}
+use Rattle.script_turns.specs.{Takes.IsMetaAfter, Powered.TurnMoment, Powered.SameDevice, Stage.on_where, Takes.TakesOn}
+use Rattle.script_turns.specs.{Replies.is_there, Replies.moment_where, Replies.reply_by, Turning.IsCallTurn}
+use Rattle.script_turns.specs.{Turning.LeavesAgent, Turning.Turns, Turning.quiet_turn, declared.turned.AgentTurn.AgentTurn}
 use Rattle.script_turns.proofs.CallTakes.{done_reply, got, on_by, with}
 use Rattle.script_turns.proofs.CallTurns.{Called, GoesBackAs, begin-turns, call-turns, is_single}
 

@@ -17,9 +17,9 @@ use Rattle.agent_machine.specs.Fields.{Fields}
 use Rattle.agent_machine.specs.Moment as agent
 use Rattle.agent_machine.proofs.Beside.{spared-told}
 use Rattle.script_turns.specs.Powered.{moment_in, TurnMoment, at, SameDevice, IsAt, IsSafe, ShowsAt, numbers_kept}
-use Rattle.script_turns.specs.{Stage.device, Stage.has_power, declared.stage.Stage.Stage, Sending.LacksSent, Calls.is_agents}
-use Rattle.script_turns.specs.{Calls.needs_bank, Takes.TakesBy, Takes.stop_told}
-use Rattle.script_turns.specs.{Touches.TouchesBy, Turned.IsStageTurn, Turned.TurnLeaves, Turned.TurnsAlone}
+use Rattle.script_turns.specs.{Stage.device, Stage.has_power, declared.stage.Stage.Stage, Sending.LacksSent, Replies.is_agents}
+use Rattle.script_turns.specs.{Replies.needs_bank, Takes.TakesBy, Takes.stop_told}
+use Rattle.script_turns.specs.{Takes.TouchesBy, Turning.IsStageTurn, Turning.TurnLeaves, Turning.TurnsAlone}
 use Rattle.script_turns.specs.Turning.{Turns, Arms, Makes, NoneFalls, quiet_turn}
 use Rattle.script_turns.specs.Replies.{Replies, no_call_reply, power_after, show_reply}
 use Rattle.script_turns.proofs.Staying.{Leads, counts_none, among, falls-same, makes-none, never-boots, never-cuts, no-numbers, no-stop}
@@ -243,8 +243,8 @@ cut-turns passes tells files n k old new faults arms = quiet-turns passes tells 
   no_stop = refl;
   on_is = arms.on_is;
   same = arms.same;
-  counts = arms.counts;
-  once = arms.once;
+  counts = record { faults = omega (arith, arms.idles.faults); cuts = omega (arith, arms.idles.cuts); reached = omega (arith, arms.idles.reached); chances = arms.idles.chances };
+  once = omega (arith, arms.idles.faults, arms.idles.cuts, arms.idles.reached);
   made = arms.made;
   armed = arms.armed_is;
   free = λ no. absurd cc;

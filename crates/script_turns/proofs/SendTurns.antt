@@ -7,7 +7,7 @@ use Rattle.host_io.specs.Contents.{Directory}
 use Rattle.flash_core.specs.{declared.flash.Arming.Arming, declared.flash.Counts.Counts, declared.flash.Flash.Ghosts}
 use Rattle.flash_core.specs.{declared.flash.FlashStop.FlashStop, Told.Told, Calls.Goes}
 use Rattle.flash_core.specs.declared.flash.FlashStop.TheVariants as flash_stop
-use Rattle.flash_core.specs.Counts.{Spends, StaysUnarmed, stops_in}
+use Rattle.flash_core.specs.Counts.{Spends, StaysUnarmed, lowered_by, stops_in}
 use Rattle.fwu_formats.specs.{Layout.ImageRow, Layout.Layout, Package.Entry, Package.Toc, Package.entry_of, Package.has_image, Layout.no_row}
 use Rattle.fwu_formats.proofs.Same.{listed-same}
 use Rattle.fwu_model.specs.{State.State, State.Move, State.after, Sound.Setting, Call.Call, Reply.Reply, Reply.Turn}
@@ -20,21 +20,21 @@ use Rattle.fwu_model.specs.Run.{Condition, Answered, Stopped, asks_state, is_boo
 use Rattle.moves.specs.Moved.{IsReady}
 use Rattle.moves.proofs.Composed.{does-idle}
 use Rattle.fip_tables.specs.Files.{Lacks, Tells}
-use Rattle.agent_machine.specs.{Beside.KeepsSparedByAll, Beside.SparesBlocksByAll, Fields.Fields, Goes.GoesByMoves, Meets.Stays}
+use Rattle.agent_machine.specs.{Beside.KeepsSparedByAll, Beside.SparesBlocksByAll, Ends.TakesSwitch, Fields.Fields, Goes.GoesByMoves, Meets.Stays}
 use Rattle.agent_machine.specs.{Machine.state_in, Machine.session_in, Knows.Fitting, Knows.Knows}
 use Rattle.agent_machine.proofs.{Beside.spared-same, Showing.known-shows}
 use Rattle.agent_machine.specs.Moment as agent
 use Rattle.update_client.specs.{declared.stops.Sent.Sent, declared.stops.SendStop.SendStop, Halts.flash_of}
 use Rattle.update_client.specs.declared.stops.SendStop.TheVariants.{End, ReadFailed, Lost, Fault, Gone}
-use Rattle.update_client.specs.Pieces.{ReadsPieceBy, unread_in}
+use Rattle.update_client.specs.Images.{ReadsPieceBy, unread_in}
 use Rattle.update_client.specs.Sends.{AnswersBy, GoneBy, IsEarlySend, Sends, SendEndsBy, ended_session, send_answer}
 use Rattle.update_client.specs.Partial.{GoesAs, SendsOver, WasBegun, over_answer, writes_over}
 use Rattle.agent_calls.specs.{Takes.Takes as TakesWrites, Takes.writes_to_begin, declared.agent.Agent.Agent}
-use Rattle.update_client.specs.Takes.{OnRefusedEnd, OnUnread, DoneSendTakes as TakesSent, SendTakesBy, UnreadTakes, writes_sent}
+use Rattle.update_client.specs.Takes.{OnRefusedEnd, OnUnread, SendTakesBy, TakesFirst, writes_sent}
 use Rattle.agent_calls.specs.Shown.{device, fields, gone, moment}
 use Rattle.fwu_journal.specs.Shown.{turn}
 use Rattle.flash_core.proofs.Unarmed.{unarmed_none}
-use Rattle.script_turns.specs.{declared.turned.AgentTurn.AgentTurn, Calls.is_composed, Calls.moment_where, Calls.needs_bank, Stage.on_where}
+use Rattle.script_turns.specs.{declared.turned.AgentTurn.AgentTurn, Replies.is_composed, Replies.moment_where, Replies.needs_bank, Stage.on_where}
 use Rattle.script_turns.specs.{Replies.Replies, Replies.power_after, Turning.Turns, Turning.quiet_turn}
 use Rattle.script_turns.specs.Powered.{TurnMoment, at, kept_at, IsAt, IsSafe, ShowsAt}
 use Rattle.script_turns.specs.Sending.{AnswersSend, IsTableOf, LacksSent, SendSays, SendsAs, SpendsSent, TellsBegun, done_reply, is_answered, send_call, sent_reply}
@@ -460,11 +460,11 @@ module _ (partly : Bool) (passes : List ℕ → Bool) (tells : Bool) (files : Op
     leads (Err s) a own stays goes = leads-answered (sent_reply partly (Err s)) a own refl goes stays
 
   -- what an armed loss counts of one that is done, or whose end is refused
-  done-spent : (kind : Bool) (sent : Sent) (toc : Toc) → TakesSent (writes_to_send kind f toc) armed arming → SpendsSent (done_reply kind sent) (writes_to_send kind f toc) armed arming
+  done-spent : (kind : Bool) (sent : Sent) (toc : Toc) → TakesSwitch (lowered_by (writes_to_send kind f toc) armed) arming → SpendsSent (done_reply kind sent) (writes_to_send kind f toc) armed arming
   done-spent false sent toc takes = takes
   done-spent true sent toc takes = takes
 
-  sent-spent : (result : Result Sent SendStop) (toc : Toc) → OnOk result (TakesSent (writes_to_send partly f toc) armed arming)
+  sent-spent : (result : Result Sent SendStop) (toc : Toc) → OnOk result (TakesSwitch (lowered_by (writes_to_send partly f toc) armed) arming)
       → OnRefusedEnd result (TakesWrites (writes_to_send partly f toc) armed arming) → SpendsSent (sent_reply partly result) (writes_to_send partly f toc) armed arming
   sent-spent (Ok sent) toc takes refused = done-spent partly sent toc takes
   sent-spent (Err (End st)) toc takes refused = refused
@@ -477,7 +477,7 @@ module _ (partly : Bool) (passes : List ℕ → Bool) (tells : Bool) (files : Op
 
   -- up to a read of the file that failed
   abbrev unread_takes : Toc → Type 0
-  unread_takes toc = (entries : List Entry) × AreSent partly f.layout.rows toc entries × UnreadTakes (writes_before partly f toc) block_bytes entries armed arming
+  unread_takes toc = (entries : List Entry) × AreSent partly f.layout.rows toc entries × TakesFirst block_bytes entries (λ writes. TakesWrites (writes_before partly f toc + writes) armed arming)
 
   sent-takes : (result : Result Sent SendStop) (power : Bool) (toc : Toc) → power ≡ is_ok (flash_of result)
       → (IsEarlySend result → (u ≡ t) × (v ≡ w) × (ds ≡ cs) × (arming ≡ armed)) → IsTableOf files name (Ok toc) → OnUnread result (unread_takes toc)

@@ -15,7 +15,7 @@ use Rattle.agent_calls.specs.Shown as of_agent
 use Rattle.agent_calls.specs.declared.agent.Agent.{Agent}
 use Rattle.agent_machine.proofs.{Known.known-shown, Showing.shows-some}
 use Rattle.script_turns.specs.Powered.{IsAt, ShowsAt, kept_at, FitsMachine, moment_in, moment_of, the, IsSafe}
-use Rattle.script_turns.specs.{Turning.Makes, Turning.NoneFalls, Turning.quiet_turn, Calls.is_agents, Calls.needs_bank, Stage.on_where, declared.powered.Powered.Powered, declared.stage.Stage.Stage}
+use Rattle.script_turns.specs.{Turning.Makes, Turning.NoneFalls, Turning.quiet_turn, Replies.is_agents, Replies.needs_bank, Stage.on_where, declared.powered.Powered.Powered, declared.stage.Stage.Stage}
 use Rattle.script_turns.specs.declared.stage.Stage.TheVariants as stage
 
 -- ---- which machine an agent shows, whatever its device counts

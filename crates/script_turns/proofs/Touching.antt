@@ -14,9 +14,9 @@ use Rattle.host_io.specs.Contents.{Directory}
 use Rattle.fwu_model.specs.Reply as reply
 use Rattle.agent_machine.specs.Moment as agent
 use Rattle.agent_machine.proofs.Beside.{blocks-once}
-use Rattle.script_turns.specs.{Calls.is_agents, Calls.is_composed, Powered.TurnMoment, Replies.AnswersTo, Replies.CallSays}
-use Rattle.script_turns.specs.{Replies.Replies, Runs.RunTouches, Runs.SparesBanks, Runs.boots_in, Touches.TouchesBy}
-use Rattle.script_turns.specs.{Touches.TouchesByBoot, Turning.Turns}
+use Rattle.script_turns.specs.{Replies.is_agents, Replies.is_composed, Powered.TurnMoment, Replies.AnswersTo, Replies.CallSays}
+use Rattle.script_turns.specs.{Replies.Replies, Runs.RunTouches, Runs.SparesBanks, Runs.boots_in, Takes.TouchesBy}
+use Rattle.script_turns.specs.{Takes.TouchesByBoot, Turning.Turns}
 use Rattle.script_turns.specs.Sending.{send_call, AnswersSend, SendSays, SendsAs}
 
 -- ---- which blocks a turn touches, by its call

@@ -1,13 +1,9 @@
 pub mod Stage
 pub mod Powered
-pub mod Arms
 pub mod Boots
 pub mod Replies
 pub mod Tables
 pub mod Sending
 pub mod Takes
-pub mod Touches
 pub mod Turning
-pub mod Turned
-pub mod Calls
 pub mod Runs

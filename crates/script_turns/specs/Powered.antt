@@ -1,10 +1,10 @@
 -- The flash of a run between two turns, as the definitions have it.
-use Rattle.std.specs.Prelude.{◌≡◌, ℕ, Bool, true, false, ◌∷◌, Option, Some, None, IsTrue, is_some, []}
+use Rattle.std.specs.Prelude.{◌≡◌, ℕ, ◌+◌, ◌≤◌, min, Bool, true, false, ◌∷◌, Option, Some, None, IsTrue, is_some, []}
 use Rattle.std.proofs.lemmas.Bool.{false≢true}
 use Rattle.flash_core.specs.{declared.flash.Arming.Arming, declared.flash.Flash.Ghosts, declared.flash.Counts.Counts, Told.Told}
-use Rattle.flash_core.specs.May.{Guards}
+use Rattle.flash_core.specs.{Counts.Idles, May.Guards}
 use Rattle.fwu_model.specs.{State.State, State.Numbers, Sound.Setting, Session.Session, Session.Off, Run.Condition}
-use Rattle.fwu_model.specs.{Headline.LeavesOneOf, Calm.IsGuarded, Calm.IsAtRest, Replica.BothHold}
+use Rattle.fwu_model.specs.{Causes.greatest, Headline.LeavesOneOf, Calm.IsGuarded, Calm.IsAtRest, Replica.BothHold}
 use Rattle.moves.specs.Moved.{IsReady, IsShown}
 use Rattle.agent_machine.specs.Fields.{Fields}
 use Rattle.agent_machine.specs.Moment as agent
@@ -78,6 +78,24 @@ pub record SameDevice (old new : TurnMoment) : Type 0 where
   pub counts : new.counts ≡ old.counts
   pub armed : new.armed ≡ old.armed
   pub power : new.power ≡ old.power
+
+-- no count of failures, losses or chances falls
+pub record NoneFalls (old new : Counts) : Type 0 where
+  pub faults : old.faults ≤ new.faults
+  pub cuts : old.cuts ≤ new.cuts
+  pub reached : old.reached ≤ new.reached
+  pub chances : old.chances ≤ new.chances
+
+-- A loss of power was armed, with exactly these numbers, on any device, on or off. What the agent keeps, what is told and the power
+-- stay. Nothing was erased or programmed. One arming more was made, and no failure and no loss was counted.
+pub record Arms (tells : Bool) (n k : ℕ) (old new : TurnMoment) : Type 0 where
+  pub on_is : new.on ≡ old.on
+  pub same : IsTrue tells → new.told ≡ old.told
+  pub writes : new.writes ≡ old.writes
+  pub idles : Idles old.counts new.counts
+  pub made : new.counts.made ≡ min (old.counts.made + 1) greatest
+  pub armed_is : new.armed ≡ Some (record { n = n; k = k })
+  pub power_is : new.power ≡ old.power
 
 -- an agent that keeps this, on a device that tells this and counts these erases and programs
 abbrev pub kept_at : Bool → Fields → Told → (ℕ → ℕ) → agent.Moment

@@ -2,7 +2,7 @@
 use Rattle.std.specs.Prelude.{◌≡◌, ◌≢◌, ◌⊎◌, ◌<◌, ℕ, ◌+◌, Bool, true, false, List, length, Option, Some, None, Result, Ok, Err, IsTrue}
 use Rattle.std.specs.Prelude.{⊤, slice_index_or}
 use Rattle.base_core.specs.Block.{block_bytes}
-use Rattle.flash_core.specs.declared.flash.Arming.{Arming}
+use Rattle.flash_core.specs.{declared.flash.Arming.Arming, Counts.lowered_by}
 use Rattle.host_io.specs.{Access.Access, Access.Asks, Contents.Directory}
 use Rattle.fwu_formats.specs.Package.{Toc, has_image}
 use Rattle.fwu_model.specs.{State.State, State.after, Sound.Setting, Session.Session, Call.Call, Reply.Reply}
@@ -10,13 +10,13 @@ use Rattle.fwu_model.specs.Call as call
 use Rattle.fwu_model.specs.Reply as reply
 use Rattle.fwu_model.specs.Answer.{image_held, images_of, images_over, table_in}
 use Rattle.fip_tables.specs.Files.{Lacks, Tells}
-use Rattle.agent_machine.specs.{Fields.Fields, Meets.Stays}
+use Rattle.agent_machine.specs.{Ends.TakesSwitch, Fields.Fields, Meets.Stays}
 use Rattle.agent_machine.specs.Moment as agent
 use Rattle.agent_calls.specs.Takes.{Takes as TakesWrites, writes_to_begin}
 use Rattle.update_client.specs.{declared.stops.Sent.Sent, declared.stops.SendStop.SendStop, Sends.send_answer}
 use Rattle.fwu_formats.specs.Layout.{no_row}
 use Rattle.update_client.specs.declared.stops.SendStop.TheVariants.{MissingImage, ImageTooLarge, Begin, End, ReadFailed, Lost, Fault, Gone}
-use Rattle.update_client.specs.Takes.{DoneSendTakes as TakesSent, writes_sent}
+use Rattle.update_client.specs.Takes.{writes_sent}
 use Rattle.update_client.specs.Partial.{AreWhole, over_answer, writes_over}
 use Rattle.script_turns.specs.{Tables.IsOfAnswer, Powered.TurnMoment, Powered.kept_at}
 
@@ -44,8 +44,8 @@ IsUnnamed other access = ⊤
 -- A sending that is done takes off an armed loss the erases and programs of its writes and of the switch, and no other. One whose
 -- end is refused takes those of its writes alone.
 abbrev pub SpendsSent : Reply → ℕ → Option Arming → Option Arming → Type 0
-SpendsSent (reply.Sent images skipped) writes armed arming = TakesSent writes armed arming
-SpendsSent (reply.SentPartial images skipped copied) writes armed arming = TakesSent writes armed arming
+SpendsSent (reply.Sent images skipped) writes armed arming = TakesSwitch (lowered_by writes armed) arming
+SpendsSent (reply.SentPartial images skipped copied) writes armed arming = TakesSwitch (lowered_by writes armed) arming
 SpendsSent (reply.EndRefused st) writes armed arming = TakesWrites writes armed arming
 SpendsSent other writes armed arming = ⊤
 

@@ -9,7 +9,7 @@ use Rattle.fip_tables.specs.declared.toc.TocStop.TheVariants as toc_stop
 use Rattle.fip_tables.specs.Files.{IsOfSome, Lacks, Tells}
 use Rattle.capsule_tables.specs.declared.faults.CapsuleStop.TheVariants as capsule_stop
 use Rattle.capsule_tables.specs.Ranges.{IsOfReads}
-use Rattle.update_client.specs.Packages.{HoldsPayloads}
+use Rattle.update_client.specs.Images.{HoldsPayloads}
 use Rattle.script_turns.specs.declared.tables.TableStop.{TableStop}
 use Rattle.script_turns.specs.declared.tables.TableStop.TheVariants.{Package, Capsule, ReadFailed}
 

@@ -1,20 +1,21 @@
--- What an armed loss counts of a turn, on any device. "Did nothing" says of each device, also of one that tells no content, that
--- its counts, its power and the armed loss stay, and that nothing was erased or programmed, where the device counts that. "Wrote
--- nothing" says of the armed loss alone that it stays.
-use Rattle.std.specs.Prelude.{◌≡◌, ◌⊎◌, ℕ, ◌+◌, ◌-◌, Bool, true, false, List, length, Option, Some, None, Result, Ok, Err, IsTrue}
-use Rattle.std.specs.Prelude.{⊤, IsFalse, ◌||◌}
+-- What an armed loss counts of a turn, and which blocks it erases or programs, on any device. And which metadata decides after it.
+-- "Did nothing" says of each device, also of one that tells no content, that its counts, its power and the armed loss stay. And
+-- that nothing was erased or programmed, where the device counts that. "Wrote nothing" says of the armed loss alone that it stays.
+use Rattle.std.specs.Prelude.{◌≡◌, ◌⊎◌, ℕ, ◌+◌, ◌-◌, ◌*◌, Bool, true, false, List, length, Option, Some, None, Result, Ok, Err, IsTrue, ⊤, IsFalse, ◌||◌}
 use Rattle.flash_core.specs.declared.flash.FlashStop.{FlashStop}
 use Rattle.flash_core.specs.declared.flash.FlashStop.TheVariants as flash_stop
-use Rattle.flash_core.specs.Counts.{ReachesNone, Rose, arming_kept}
+use Rattle.flash_core.specs.{Counts.ReachesNone, Counts.Rose, Counts.arming_kept, Told.Told, Touches.TouchesOnly}
 use Rattle.base_core.specs.Block.{block_bytes}
 use Rattle.host_io.specs.Contents.{Directory}
-use Rattle.fwu_formats.specs.{Layout.ImageRow, Layout.find_image, Metadata.bit_at, Package.Entry, Package.Toc}
+use Rattle.fwu_formats.specs.{Layout.ImageRow, Layout.find_image, Metadata.MetaRead, Metadata.bit_at, Package.Entry, Package.Toc, Places.counter_block}
 use Rattle.slot_writer.specs.Writes.{SpendsArming, writes_to_append, writes_to_finish}
 use Rattle.agent_kept.specs.Kept.{handle_kept, part_at, size_of}
 use Rattle.agent_kept.specs.declared.parts.Handle.TheVariants as handle
-use Rattle.agent_machine.specs.{Fields.Fields, Ends.IsWriter, Ends.TakesSwitch, Stored.TakesStore}
+use Rattle.agent_machine.specs.{Beside.SparesBlocks, Beside.SparesBlocksByAll, Deciding.KeepsOldOrNew, Fields.Fields, Ends.IsWriter, Ends.TakesSwitch, Stored.TakesStore}
+use Rattle.agent_calls.specs.Metas.{meta_accepted, meta_back, meta_begun, meta_ended}
 use Rattle.agent_calls.specs.Takes.{Takes as TakesWrites, writes_to_begin, writes_to_copy}
-use Rattle.update_client.specs.{Choosing.AreChosen, Takes.UnreadTakes, Partial.present, Partial.writes_copied}
+use Rattle.fip_tables.specs.Images.{AreImages, present}
+use Rattle.update_client.specs.{Takes.TakesFirst, Partial.writes_copied}
 use Rattle.fwu_model.specs.{Answer.are_named, Call.Call, Reply.Reply, Run.is_boot, Causes.is_cut}
 use Rattle.fwu_model.specs.Call as call
 use Rattle.fwu_model.specs.Reply as reply
@@ -79,7 +80,7 @@ writes_before true f toc = writes_to_begin f + writes_copied f.layout.rows f.len
 
 -- the entries of all images, or of those that the table has
 abbrev pub AreSent : Bool → List ImageRow → Toc → List Entry → Type 0
-AreSent false rows toc entries = AreChosen rows toc entries
+AreSent false rows toc entries = AreImages rows toc entries
 AreSent true rows toc entries = entries ≡ present rows toc
 
 -- By some table, that of the file where it is told: those of the begin, of the first images, and of the first pieces of the next
@@ -89,7 +90,7 @@ pub record StopTakes (partial : Bool) (files : Option Directory) (name : List �
   pub table : IsTableOf files name (Ok toc)
   pub entries : List Entry
   pub sent : AreSent partial f.layout.rows toc entries
-  pub spent : UnreadTakes (writes_before partial f toc) block_bytes entries old.armed new.armed
+  pub spent : TakesFirst block_bytes entries (λ writes. TakesWrites (writes_before partial f toc + writes) old.armed new.armed)
 
 -- What was refused before anything was sent did nothing. A sending whose file could not be read takes the erases and programs of
 -- its writes up to that read. What one takes that is done, or whose end is refused, stands beside the table that was sent, in
@@ -135,3 +136,45 @@ pub record TakesTurn (files : Option Directory) (c : Call) (old : TurnMoment) (r
     (was are : ℕ) : Type 0 where
   pub by_call : TakesBy files c old.on old r new
   pub unread : r ≡ reply.ReadFault → (Rose was are → ⊥) → SameDevice old new
+
+-- ---- which blocks a turn erases or programs, on every device that counts its writes, whatever its reads give
+
+-- A boot: the replicas, in blocks 1 and 2, the marks of starts on trial, in block 3, and the records, in blocks 5 and 6. The
+-- counter's marks, in block 4, stay.
+pub record TouchesByBoot (old new : ℕ → ℕ) : Type 0 where
+  pub front : TouchesOnly block_bytes (block_bytes * 7) old new
+  pub marks_still : new counter_block ≡ old counter_block
+
+-- A boot touches these, whatever was on, and where no bank is on no other call touches any. Where one is, a call of the
+-- agent touches only the metadata, the marks of the starts on trial and the bank behind the one that was started. That bank it
+-- touches only where the one that was started is active, or by calls in a row. A show, a cut and a request for no call touch
+-- nothing.
+abbrev pub TouchesBy : Call → Option Fields → (ℕ → ℕ) → (ℕ → ℕ) → Type 0
+TouchesBy call.Boot on old new = TouchesByBoot old new
+TouchesBy other None old new = new ≡ old
+TouchesBy call.Show (Some f) old new = new ≡ old
+TouchesBy call.NoCall (Some f) old new = new ≡ old
+TouchesBy (call.Cut n k) (Some f) old new = new ≡ old
+TouchesBy (call.BeginPartial types) (Some f) old new = SparesBlocksByAll f old new
+TouchesBy (call.Send name request) (Some f) old new = SparesBlocksByAll f old new
+TouchesBy (call.SendPartial name request) (Some f) old new = SparesBlocksByAll f old new
+TouchesBy other (Some f) old new = SparesBlocks f old new
+
+-- ---- which metadata decides in what a loss leaves of a call of the agent
+
+-- the metadata that a call of the agent leaves is what the agent kept, or what the call makes of that
+abbrev pub IsMetaAfter : Call → Fields → MetaRead → Type 0
+IsMetaAfter (call.Begin n) f m = (m ≡ f.meta) ⊎ (m ≡ meta_begun f)
+IsMetaAfter (call.BeginPartial types) f m = (m ≡ f.meta) ⊎ (m ≡ meta_begun f)
+IsMetaAfter (call.Accepts guid) f m =
+    (m ≡ f.meta) ⊎ ((image : ℕ) × (find_image f.layout.rows guid ≡ Some image) × (m ≡ meta_accepted f image))
+IsMetaAfter call.End f m = (m ≡ f.meta) ⊎ (m ≡ meta_ended f)
+IsMetaAfter call.Previous f m = (m ≡ f.meta) ⊎ (m ≡ meta_back f)
+IsMetaAfter other f m = m ≡ f.meta
+
+-- Take a flash at rest whose replicas both hold what the agent kept. In each image that a loss leaves that metadata decides, or the
+-- one that the call makes of it.
+pub record DecidesAfter (c : Call) (f : Fields) (s t : Told) : Type 0 where
+  pub meta : MetaRead
+  pub is_after : IsMetaAfter c f meta
+  pub decides : KeepsOldOrNew f.layout f.meta meta s t

@@ -9,8 +9,7 @@ ghost use Rattle.early_boot.specs.Ends.{booted as booted_to};
 ghost use Rattle.fwu_journal.specs.Shown.{IsShortReply, reply, turn};
 ghost use Rattle.script_turns.specs.Stage.{device, has_power, shown_on};
 ghost use Rattle.script_turns.specs.Powered.{moment, moment_in};
-ghost use Rattle.script_turns.specs.Turned.{LeavesBooted, TurnLeaves, TurnsAlone};
-ghost use Rattle.script_turns.specs.Turning.{GetsPower, boot_turn};
+ghost use Rattle.script_turns.specs.Turning.{LeavesBooted, TurnLeaves, TurnsAlone, GetsPower, boot_turn};
 
 use crate::stage::{Live, Stage};
 use agent_calls::Agent;

@@ -6,10 +6,9 @@ ghost use Rattle.fwu_model.specs.Reply as model;
 ghost use Rattle.agent_calls.specs.Shown.{gone};
 ghost use Rattle.fwu_journal.specs.Shown.{IsShortReply, turn};
 ghost use Rattle.script_text.specs.Shown.{HasBuffer, shown};
-ghost use Rattle.script_turns.specs.Calls.{is_agents, is_there, reply_by, stop_reply};
+ghost use Rattle.script_turns.specs.Replies.{is_agents, is_there, reply_by, stop_reply};
 ghost use Rattle.fwu_model.specs.Call.{open_call};
-ghost use Rattle.script_turns.specs.Turned.{IsCallTurn, LeavesAgent};
-ghost use Rattle.script_turns.specs.Turning.{quiet_turn};
+ghost use Rattle.script_turns.specs.Turning.{IsCallTurn, LeavesAgent, quiet_turn};
 
 use crate::turned::{AgentTurn, answered, stopped};
 use agent_calls::{Agent, Stop};

@@ -5,10 +5,9 @@ ghost use Rattle.agent_calls.specs.Shown.{fields};
 ghost use Rattle.fwu_model.specs.Call as call;
 ghost use Rattle.fwu_journal.specs.Shown.{IsShortReply, reply, turn};
 ghost use Rattle.script_turns.specs.Stage.{device, has_power, shown_on};
-ghost use Rattle.script_turns.specs.Powered.{moment_in, numbers_kept};
+ghost use Rattle.script_turns.specs.Powered.{moment_in, numbers_kept, Arms};
 ghost use Rattle.script_turns.specs.Replies.{no_call_reply, show_reply};
-ghost use Rattle.script_turns.specs.Arms.{Arms};
-ghost use Rattle.script_turns.specs.Turned.{TurnsAlone};
+ghost use Rattle.script_turns.specs.Turning.{TurnsAlone};
 
 use crate::stage::Stage;
 use crate::turned::turn_of;

@@ -4,10 +4,9 @@ ghost use Rattle.host_io.specs.Reads.{ReadsFile};
 ghost use Rattle.agent_calls.specs.Shown.{gone};
 ghost use Rattle.fwu_journal.specs.Shown.{IsShortReply, reply, turn};
 ghost use Rattle.script_text.specs.Shown.{shown};
-ghost use Rattle.update_client.specs.Packages.{HoldsPayloads};
+ghost use Rattle.update_client.specs.Images.{HoldsPayloads};
 ghost use Rattle.script_turns.specs.Sending.{IsTableOf, done_reply, is_answered, send_call, sent_reply};
-ghost use Rattle.script_turns.specs.Turned.{IsTurnWith, LeavesAgent};
-ghost use Rattle.script_turns.specs.Turning.{quiet_turn};
+ghost use Rattle.script_turns.specs.Turning.{IsTurnWith, LeavesAgent, quiet_turn};
 
 use crate::tables::{TableStop, read_table};
 use crate::turned::{AgentTurn, answered, stopped};

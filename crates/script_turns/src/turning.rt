@@ -8,12 +8,11 @@ ghost use Rattle.agent_calls.specs.Shown.{device as agent_device, gone};
 ghost use Rattle.fwu_journal.specs.Shown.{IsShortReply, turn};
 ghost use Rattle.script_text.specs.Armable.{IsArmable};
 ghost use Rattle.script_text.specs.Shown.{HasBuffer, shown};
-ghost use Rattle.script_turns.specs.Calls.{needs_bank};
+ghost use Rattle.script_turns.specs.Replies.{needs_bank};
 ghost use Rattle.script_turns.specs.Powered.{FitsMachine, device, has_power, moment_of, shown_on};
 ghost use Rattle.script_turns.specs.Sending.{IsUnnamed, LacksSent};
 ghost use Rattle.script_turns.specs.Stage.{device as flash_of, has_power as is_powered};
-ghost use Rattle.script_turns.specs.Turned.{IsStageTurn, IsTurnWith, LeavesAgent, TurnLeaves, TurnsAlone};
-ghost use Rattle.script_turns.specs.Turning.{Turns};
+ghost use Rattle.script_turns.specs.Turning.{IsStageTurn, IsTurnWith, LeavesAgent, TurnLeaves, TurnsAlone, Turns};
 
 use crate::booting::{Booting, boot_turn};
 use crate::calling::call_turn;

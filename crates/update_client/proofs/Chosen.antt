@@ -1,5 +1,5 @@
 -- The faults of images, as the machine tells them, and the entries that were chosen.
-use Rattle.std.proofs.Common.{◌≡◌, cond, ◌*◌, ◌<◌, Bool, true, false, List, [], ◌∷◌, length, get_or, Option, Some, None, refl, sym, ap, subst, ◌∙◌, arith}
+use Rattle.std.proofs.Common.{◌≡◌, cond, ◌*◌, ◌<◌, Bool, true, false, List, [], ◌∷◌, length, get_or, Option, Some, None, Ok, refl, sym, ap, subst, ◌∙◌, arith}
 use Rattle.std.proofs.lemmas.List.{get_or_default}
 use Rattle.std.specs.Prelude.{nat_lt, option_map}
 use Rattle.std.specs.List.{All, list_any}
@@ -12,8 +12,8 @@ use Rattle.fip_tables.specs.declared.images.ImageFault.{ImageFault}
 use Rattle.fip_tables.specs.declared.images.ImageFault.TheVariants.{Missing, TooLarge}
 use Rattle.fip_tables.specs.Images.{AreImages, image_fault, images_fault, lowest_fault, no_entry, present_fault, size_fault as table_fault, ArePresent as AreThere}
 use Rattle.fip_tables.proofs.Chosen.{found_has}
-use Rattle.update_client.specs.{declared.stops.SendStop.SendStop, Partial.AreSendable}
-use Rattle.update_client.specs.Choosing.{AreChosen, refused_as, refused_image}
+use Rattle.update_client.specs.{declared.stops.SendStop.SendStop, Partial.SendsPresent}
+use Rattle.update_client.specs.Sends.{Chooses, refused_as, refused_image}
 
 abbrev reply_of : ImageFault → Reply
 reply_of (Missing guid) = reply.Missing guid
@@ -67,30 +67,22 @@ refused-by : (o : Option Reply) (faults : Option ImageFault) (fault : ImageFault
 refused-by o faults fault stop same is said =
     ap refused_image (same ∙ ap (option_map reply_of) is) ∙ refused-is fault ∙ ap (λ (s : SendStop). Some s) (sym said)
 
-pub all-chosen : (rows : List ImageRow) (toc : Toc) (entries : List Entry) → AreImages rows toc entries → AreChosen rows toc entries
-all-chosen rows toc entries are = record {
-  none = same-fault rows toc ∙ ap (option_map reply_of) are.none;
-  count = are.count;
-  each = are.each;
-  fit = are.fit;
-}
+pub all-chosen : (rows : List ImageRow) (toc : Toc) (entries : List Entry) → AreImages rows toc entries → Chooses rows toc (Ok entries)
+all-chosen rows toc entries are = (same-fault rows toc ∙ ap (option_map reply_of) are.none, are)
 
 pub all-refused : (rows : List ImageRow) (toc : Toc) (fault : ImageFault) (stop : SendStop) → images_fault rows toc ≡ Some fault → stop ≡ refused_as fault
     → refused_image (first_image_fault rows toc) ≡ Some stop
 all-refused rows toc fault stop is said = refused-by (first_image_fault rows toc) (images_fault rows toc) fault stop (same-fault rows toc) is said
 
-pub present-chosen : (rows : List ImageRow) (toc : Toc) (entries : List Entry) → AreThere rows toc entries → AreSendable rows toc entries
-present-chosen rows toc entries are = record {
-  none = same-partial rows toc ∙ ap (option_map reply_of) are.none;
-  entries_are = are.entries_are;
-}
+pub present-chosen : (rows : List ImageRow) (toc : Toc) (entries : List Entry) → AreThere rows toc entries → SendsPresent rows toc (Ok entries)
+present-chosen rows toc entries are = (same-partial rows toc ∙ ap (option_map reply_of) are.none, are.entries_are)
 
 pub present-refused : (rows : List ImageRow) (toc : Toc) (fault : ImageFault) (stop : SendStop) → present_fault rows toc ≡ Some fault → stop ≡ refused_as fault
     → refused_image (partial_fault rows toc) ≡ Some stop
 present-refused rows toc fault stop is said = refused-by (partial_fault rows toc) (present_fault rows toc) fault stop (same-partial rows toc) is said
 
 -- what holds of each entry of a table holds of each that was chosen
-pub chosen_have : (P : Entry → Type 0) (rows : List ImageRow) (toc : Toc) (entries : List Entry) → AreChosen rows toc entries
+pub chosen_have : (P : Entry → Type 0) (rows : List ImageRow) (toc : Toc) (entries : List Entry) → AreImages rows toc entries
     → All P toc.entries → All P entries
 chosen_have P rows toc entries chosen all k d below =
     let within : k < length rows = omega (arith, below, chosen.count) in

@@ -13,7 +13,7 @@ use Rattle.agent_machine.specs.Meets.{GoesBy, flash_result}
 use Rattle.agent_machine.specs.declared.stop.Stop.TheVariants as stop
 use Rattle.agent_machine.proofs.Going.{goes-then}
 use Rattle.agent_machine.proofs.CallGoing.{MeetsAs, call-goes, call-replies, call-stopped}
-use Rattle.update_client.specs.{Halts.Halts, Halts.stopped_as, Finishes.FinishesSend, Finishes.FinishesBy, Finishes.end_moves}
+use Rattle.update_client.specs.{Halts.Halts, Halts.stopped_as, Images.FinishesSend, Images.FinishesBy, Images.end_moves}
 use Rattle.update_client.specs.declared.stops.SendStop.TheVariants.{End, Lost, Fault}
 use Rattle.std.specs.List.{list_all}
 use Rattle.agent_calls.proofs.Copies.{no-success}

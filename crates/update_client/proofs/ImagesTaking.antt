@@ -1,7 +1,8 @@
 -- What the calls of a sending take of an armed loss.
 use Rattle.std.proofs.Common.{Bool, ◌≡◌, ℕ, suc, ◌+◌, ◌*◌, ◌<◌, ◌≤◌, List, [], ◌∷◌, ◌++◌, take, length, get_or, Option, Some, Ok, refl, sym, ap, subst, ◌∙◌, arith}
 use Rattle.std.proofs.lemmas.List.{take_all}
-use Rattle.std.specs.Prelude.{◌==◌}
+use Rattle.std.specs.{Prelude.◌==◌, List.cons_option}
+use Rattle.fip_tables.specs.Images.{present}
 use Rattle.host_io.specs.Contents.{Directory}
 use Rattle.flash_core.specs.{declared.flash.Arming.Arming, Counts.lowered_by}
 use Rattle.fwu_formats.specs.{Layout.ImageRow, Package.Entry, Package.Toc, Package.entry_of, Layout.no_row}
@@ -10,8 +11,8 @@ use Rattle.fwu_model.specs.Reply as reply
 use Rattle.slot_writer.specs.Writes.{writes_to_append, writes_to_finish}
 use Rattle.agent_kept.specs.{declared.parts.Handle.TheVariants.Writes, Kept.part_at, Kept.handle_kept, Kept.size_of}
 use Rattle.agent_machine.specs.{Ends.IsWriter, Moment.Moment}
-use Rattle.update_client.specs.{Pieces.WritesImage, Images.no_entry, Images.sent_parts}
-use Rattle.update_client.specs.Takes.{PayloadPieceTakes, FirstTake, ImageTakes, ImagesTake, writes_in, writes_of_entry, writes_sent}
+use Rattle.update_client.specs.{Images.WritesImage, Images.no_entry, Images.sent_parts}
+use Rattle.update_client.specs.Takes.{ImagesTake, PayloadPieceTakes, UnstagedTakes, UnwrittenTakes, writes_in, writes_sent}
 use Rattle.update_client.proofs.{WrittenImage.WritesFirst, Staging.sent-long, Staging.sent-other, WrittenPiece.image-opened}
 use Rattle.update_client.proofs.SentImages.{SendsFirst, take-next}
 use Rattle.agent_calls.specs.Takes.{Takes, piece_at, pieces_of, writes_of_image, writes_of_pieces}
@@ -36,7 +37,7 @@ piece-takes at n old armed arming lowered s boot parts image before below count 
 pub record FirstTaken (size : ℕ) (e : Entry) (at : ℕ) (old : Moment) (armed arming : Option Arming) : Type 0 where
   pub count : ℕ
   pub pieces : Pieces size e.size at count
-  pub takes : FirstTake size e count old armed arming
+  pub takes : UnwrittenTakes (writes_of_pieces size e.size count) e old armed arming
 
 pub first-taken-none : (size : ℕ) (e : Entry) (m : Moment) (armed : Option Arming) → 0 < size → FirstTaken size e 0 m armed armed
 first-taken-none size e m armed some = record {
@@ -64,17 +65,17 @@ first-taken-more told name size e at n old mid a b c more is first front piece =
     }
 
 pub first-taken-all : (size : ℕ) (e : Entry) (at : ℕ) (old : Moment) (a b : Option Arming) → 0 < size → e.size ≤ at
-    → FirstTaken size e at old a b → FirstTake size e (pieces_of size e.size) old a b
+    → FirstTaken size e at old a b → UnwrittenTakes (writes_of_pieces size e.size (pieces_of size e.size)) e old a b
 first-taken-all size e at old a b some all front =
-    subst (λ (k : ℕ). FirstTake size e k old a b) (pieces-all size e.size at front.count front.pieces some all) front.takes
+    subst (λ (k : ℕ). UnwrittenTakes (writes_of_pieces size e.size k) e old a b) (pieces-all size e.size at front.count front.pieces some all) front.takes
 
 -- ---- an image
 
 pub image-takes : (told : Option Directory) (name : List ℕ) (size : ℕ) (e : Entry) (h : ℕ) (old opened mid : Moment) (a b c : Option Arming)
     → ((passes : List ℕ → Bool) → MeetsAs {T = ℕ} (λ k. reply.Opened k) (Ok h) passes (call.OpenWrite e.guid) old opened)
-    → WritesImage told name e (Ok tt) opened mid → FirstTake size e (pieces_of size e.size) opened a b
+    → WritesImage told name e (Ok tt) opened mid → UnwrittenTakes (writes_of_pieces size e.size (pieces_of size e.size)) e opened a b
     → ((image : ℕ) → IsWriter mid.fields 1 image → c ≡ lowered_by (writes_to_finish (size_of (part_at mid.fields.session image))) b)
-    → ImageTakes size e old a c
+    → UnstagedTakes (writes_of_image size e.size) e old a c
 image-takes told name size e h old opened mid a b c opens wrote takes lowered E s boot parts image layout below found room none shows =
     let one = image-opened e.guid h old opened opens E s boot parts image layout below found none shows in
     let there = layout ∙ sym one.stays.layout in
@@ -97,7 +98,7 @@ images-take-none size entries m armed E s boot parts places layout are shows = t
 
 pub images-take-more : (told : Option Directory) (name : List ℕ) (size : ℕ) (entries : List Entry) (request k : ℕ) (old mid : Moment) (a b c : Option Arming)
     → k < length entries → SendsFirst told name entries request k old mid → ImagesTake size entries k old a b
-    → ImageTakes size (get_or entries k no_entry) mid b c → ImagesTake size entries (k + 1) old a c
+    → UnstagedTakes (writes_of_image size (get_or entries k no_entry).size) (get_or entries k no_entry) mid b c → ImagesTake size entries (k + 1) old a c
 images-take-more told name size entries request k old mid a b c below first takes image E s boot parts places layout are shows =
     let e = get_or entries k no_entry in
     let one = first.goes E s boot parts places layout are shows in
@@ -127,6 +128,7 @@ writes-chosen size [] toc [] count each = refl
 writes-chosen size [] toc (e ∷ es) count each = absurd (omega (arith, count))
 writes-chosen size (r ∷ rows) toc [] count each = absurd (omega (arith, count))
 writes-chosen size (r ∷ rows) toc (e ∷ es) count each =
-    let here : writes_of_entry size (entry_of toc r.guid) ≡ writes_of_image size e.size = ap (writes_of_entry size) (each 0 (omega arith)) in
+    let here : writes_in size (cons_option (entry_of toc r.guid) (present rows toc)) ≡ writes_of_image size e.size + writes_sent size rows toc =
+    ap (λ (o : Option Entry). writes_in size (cons_option o (present rows toc))) (each 0 (omega arith)) in
     let rest = writes-chosen size rows toc es (omega (arith, count)) (λ k lt. each (suc k) (omega (arith, lt))) in
     omega (arith, here, rest)

@@ -16,7 +16,7 @@ use Rattle.agent_machine.specs.declared.stop.Stop.TheVariants as stop
 use Rattle.update_client.specs.{declared.stops.SendStop.SendStop, Halts.Halts, Halts.is_unread}
 use Rattle.update_client.specs.declared.stops.SendStop.TheVariants.{End, ReadFailed, Lost, Fault}
 use Rattle.update_client.specs.Images.{AreUnstaged, SendsImages, sent_parts}
-use Rattle.update_client.specs.Finishes.{FinishesSend, FinishesBy, InstallsImages, end_moves}
+use Rattle.update_client.specs.Images.{FinishesSend, FinishesBy, InstallsImages, end_moves}
 use Rattle.agent_machine.proofs.Going.{goes-then, goes-stopped}
 use Rattle.agent_machine.proofs.CallGoing.{MeetsAs, call-goes, call-replies}
 use Rattle.update_client.proofs.Staging.{cancel-answers}

@@ -7,7 +7,7 @@ use Rattle.agent_machine.specs.{declared.stop.Stop.Stop, Meets.GoesBy}
 use Rattle.agent_machine.specs.declared.stop.Stop.TheVariants as stop
 use Rattle.agent_machine.proofs.Spending.{call-spent, none-spent, spent-then}
 use Rattle.agent_calls.specs.{declared.agent.Agent.Agent, Shown.AgentGoes, Shown.SpentBy, Shown.device, Shown.gone, Shown.moment}
-use Rattle.update_client.specs.{declared.stops.SendStop.SendStop, Pieces.KeepsBeside, Pieces.ReadsPieceBy, Pieces.SparesOthers}
+use Rattle.update_client.specs.{declared.stops.SendStop.SendStop, Images.KeepsBeside, Images.ReadsPieceBy, Images.SparesOthers}
 use Rattle.update_client.specs.declared.stops.SendStop.TheVariants.{MissingImage, End, ReadFailed, Lost, Fault}
 use Rattle.update_client.specs.Halts.{StopsEnd, StopsWithin, flash_of, stopped_as}
 use Rattle.update_client.proofs.{Sparing.spares-none, Sparing.spares-then, Spending.stop-spent}

@@ -9,7 +9,8 @@ use Rattle.fwu_formats.specs.Layout.{find_image, are_distinct, slot_bytes, no_ro
 use Rattle.fwu_formats.specs.Package.{Entry, Toc, has_guid}
 use Rattle.fwu_model.proofs.Staging.{same-is}
 use Rattle.agent_calls.proofs.OwnRows.{guid_in, own-image}
-use Rattle.update_client.specs.{Choosing.AreChosen, Images.AreUnstaged, Images.no_entry}
+use Rattle.fip_tables.specs.Images.{AreImages, no_entry}
+use Rattle.update_client.specs.Images.{AreUnstaged}
 
 pub found-has : (guid : List ℕ) (es : List Entry) (e : Entry) → find (has_guid guid) es ≡ Some e → e.guid ≡ guid
 found-has guid [] e is = absurd cc
@@ -25,7 +26,7 @@ found-has guid (x ∷ xs) e is = by-test (has_guid guid x) (find (has_guid guid)
 
 pub are-images : (E : Setting) (toc : Toc) (entries : List Entry) → IsTrue (are_distinct (map (λ r. r.guid) E.layout.rows))
     → ((k : ℕ) → slot_bytes E.layout k ≡ 4096 * (get_or E.layout.rows k no_row).slots)
-    → AreChosen E.layout.rows toc entries
+    → AreImages E.layout.rows toc entries
     → AreUnstaged E entries (range_with_len 0 (length E.layout.rows)) (replicate (length E.layout.rows) Nothing)
 are-images E toc entries distinct slots chosen = record {
   count = length-range_with_len 0 (length E.layout.rows) ∙ sym chosen.count;

@@ -15,9 +15,9 @@ use Rattle.agent_machine.specs.Moment.{Moment, Shows}
 use Rattle.agent_machine.specs.declared.stop.Stop.TheVariants as stop
 use Rattle.agent_machine.proofs.Going.{goes-then, goes-nothing, goes-stopped}
 use Rattle.agent_calls.specs.Copies.{AnswersAs}
-use Rattle.update_client.specs.{declared.stops.SendStop.SendStop, Choosing.refused_image, Halts.unbegun_as, Partial.GoesAs}
+use Rattle.update_client.specs.{declared.stops.SendStop.SendStop, Sends.refused_image, Halts.unbegun_as, Partial.GoesAs}
 use Rattle.update_client.specs.declared.stops.SendStop.TheVariants.{MissingImage, ImageTooLarge, End, ReadFailed, Lost, Fault}
-use Rattle.update_client.specs.Finishes.{FinishesSend, end_moves}
+use Rattle.update_client.specs.Images.{FinishesSend, end_moves}
 use Rattle.update_client.specs.Sends.{AnswersBy, AllowsBegin, IsInstalled}
 use Rattle.update_client.proofs.Staging.{begin-answers, begun-keeps, begun-may}
 

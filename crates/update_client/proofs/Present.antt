@@ -1,5 +1,5 @@
 -- The images that a table has.
-use Rattle.std.proofs.Common.{◌≡◌, cond, ℕ, zero, suc, ◌+◌, ◌*◌, ◌<◌, ◌≤◌, map, subst, Bool, true, false, List, [], ◌∷◌, length, get_or, Option, Some, None, refl, sym, ap, ◌∙◌, arith, ltb-false}
+use Rattle.std.proofs.Common.{◌≡◌, cond, ℕ, zero, suc, ◌+◌, ◌*◌, ◌<◌, ◌≤◌, map, subst, Bool, true, false, List, [], ◌∷◌, length, get_or, Option, Some, None, Ok, refl, sym, ap, ◌∙◌, arith, ltb-false}
 use Rattle.std.specs.Prelude.{IsTrue, count_by, ltb, not, is_some}
 use Rattle.std.specs.List.{All, cons_option, list_any}
 use Rattle.agent_machine.proofs.Answered.{layout-limits}
@@ -12,7 +12,7 @@ use Rattle.fwu_formats.specs.Package.{Entry, Toc, entry_of, has_image}
 use Rattle.fwu_model.specs.{Sound.Setting, Session.Staged, Session.Nothing, Reply.Reply}
 use Rattle.fwu_model.specs.Answer.{copied_part, first_size_fault, sent_over, size_fault, skipped}
 use Rattle.fwu_model.specs.Reply as reply
-use Rattle.update_client.specs.{Images.AreUnstaged, Images.no_entry, Partial.AreSendable, Partial.present}
+use Rattle.update_client.specs.{Images.AreUnstaged, Images.no_entry, Partial.SendsPresent, Partial.present}
 use Rattle.agent_calls.proofs.OwnRows.{guid_in, own-image}
 use Rattle.update_client.proofs.OwnImages.{found-has}
 use Rattle.fwu_model.proofs.Selects.{layout-distinct}
@@ -211,8 +211,8 @@ or-none : (b : Bool) (o : Option Reply) (g : List ℕ) → cond b o (Some (reply
 or-none true o g h = (refl, h)
 or-none false o g h = absurd cc
 
-pub present-fit : (rows : List ImageRow) (toc : Toc) (entries : List Entry) → AreSendable rows toc entries → first_size_fault rows toc ≡ None
-present-fit rows toc entries are = (or-none (list_any (has_image toc) rows) (first_size_fault rows toc) (get_or rows 0 no_row).guid are.none).1
+pub present-fit : (rows : List ImageRow) (toc : Toc) (entries : List Entry) → SendsPresent rows toc (Ok entries) → first_size_fault rows toc ≡ None
+present-fit rows toc entries are = (or-none (list_any (has_image toc) rows) (first_size_fault rows toc) (get_or rows 0 no_row).guid are.0).1
 
 -- what holds of each entry of a table holds of each of them
 pub present-have : (P : Entry → Type 0) (rows : List ImageRow) (toc : Toc) → All P toc.entries → All P (present rows toc)
@@ -225,13 +225,13 @@ present-have P rows toc all k d below =
 pub rows-found : (L : Layout) (i : ℕ) → IsTrue (fits_layout L) → i < length L.rows → is_some (find_image L.rows (get_or L.rows i no_row).guid) ≡ true
 rows-found L i fit lt = ap (λ (o : Option ℕ). is_some o) (own-image L.rows i (layout-distinct L fit) lt)
 
-pub placed-in : (E : Setting) (L : Layout) (toc : Toc) (bytes : ℕ → List ℕ) (entries : List Entry) → E.layout ≡ L → IsTrue (fits_layout L) → AreSendable L.rows toc entries
+pub placed-in : (E : Setting) (L : Layout) (toc : Toc) (bytes : ℕ → List ℕ) (entries : List Entry) → E.layout ≡ L → IsTrue (fits_layout L) → SendsPresent L.rows toc (Ok entries)
     → AreUnstaged E entries (places toc 0 L.rows) (kept_parts toc bytes 0 L.rows)
 placed-in E L toc bytes entries layout fit are =
     subst (λ (M : Layout). AreUnstaged E entries (places toc 0 M.rows) (kept_parts toc bytes 0 M.rows)) layout
-    (let here = subst (λ (M : Layout). AreSendable M.rows toc entries) (sym layout) are in
+    (let here = subst (λ (M : Layout). SendsPresent M.rows toc (Ok entries)) (sym layout) are in
     are-present E toc bytes entries (layout-distinct E.layout (subst (λ (M : Layout). IsTrue (fits_layout M)) (sym layout) fit)) (λ k. refl)
-    (present-fit E.layout.rows toc entries here) here.entries_are)
+    (present-fit E.layout.rows toc entries here) here.1)
 
 pub rows-some : (L : Layout) → IsTrue (fits_layout L) → 0 < length L.rows
 rows-some L fit = let two = (layout-limits L fit).rows in omega (arith, two)

@@ -8,7 +8,7 @@ use Rattle.fwu_model.specs.{State.State, Sound.Setting, Session.Staged, Session.
 use Rattle.agent_machine.specs.{Moment.Moment, Moment.Shows, Goes.GoesByMoves, Filling.between, Filling.filled}
 use Rattle.fip_tables.specs.Files.{Tells}
 use Rattle.agent_machine.proofs.Going.{goes-nothing}
-use Rattle.update_client.specs.{declared.stops.SendStop.SendStop, Halts.Halts, Pieces.SendsImage}
+use Rattle.update_client.specs.{declared.stops.SendStop.SendStop, Halts.Halts, Images.SendsImage}
 use Rattle.update_client.specs.Images.{AreUnstaged, SendsImages, no_entry, sent_parts}
 use Rattle.update_client.proofs.{Staging.sent-long, Staging.sent-next, Staging.sent-other, Halting.halts-after}
 

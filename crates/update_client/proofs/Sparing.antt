@@ -7,7 +7,7 @@ use Rattle.agent_machine.specs.{declared.stop.Stop.Stop, Beside.SparesBlocksByAl
 use Rattle.agent_machine.proofs.Beside.{blocks-further, blocks-once}
 use Rattle.agent_calls.specs.{declared.agent.Agent.Agent, Copies.BeginsPartly}
 use Rattle.agent_calls.specs.Shown.{AgentGoes, device, fields, gone}
-use Rattle.update_client.specs.Pieces.{SparesOthers}
+use Rattle.update_client.specs.Images.{SparesOthers}
 
 -- no call
 pub spares-none : (m : Moment) → SparesOthers m m

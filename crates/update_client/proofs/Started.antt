@@ -14,9 +14,9 @@ use Rattle.fwu_model.specs.declared.kinds.Status.TheVariants as status
 use Rattle.agent_machine.specs.{Ends.TakesSwitch, Filling.between, Goes.GoesByMoves, Moment.Moment, Moment.Shows, Moment.Showing}
 use Rattle.agent_calls.specs.Takes.{Takes}
 use Rattle.agent_calls.proofs.Taking.{takes-some, takes-then}
-use Rattle.update_client.specs.{declared.stops.SendStop.SendStop, Finishes.FinishesSend, Finishes.InstallsImages}
+use Rattle.update_client.specs.{declared.stops.SendStop.SendStop, Images.FinishesSend, Images.InstallsImages}
 use Rattle.update_client.specs.{Images.AreUnstaged, Images.sent_parts, Partial.GoesAs, Sends.AnswersBy, Sends.IsInstalled}
-use Rattle.update_client.specs.Takes.{ImagesStart, ImagesTake, InstallTakes, InstallTakesBy, SendTakesBy, UnreadTakes, writes_in, writes_up_to}
+use Rattle.update_client.specs.Takes.{AllUnstagedTake, ImagesTake, InstallTakes, OnRefusedEnd, OnUnread, SendTakesBy, TakesFirst, writes_in}
 use Rattle.update_client.proofs.{Unsent.end-then, Unsent.unread-then, Staging.IsPacked}
 use Rattle.update_client.proofs.Packaged.{each-on, installs, sent-done, sent-halted}
 
@@ -130,12 +130,14 @@ module _ (passes : List ℕ → Bool) (entries : List Entry) (old m1 : Moment) (
   }
 
   pub halted-takes : {U : Type 0} (halt : SendStop) (IsSent : List Entry → Type 0) → IsSent entries
-      → InstallTakesBy {T = Unit {0}} (Err halt) size entries m1 begun arming → SendTakesBy {T = U} (Err halt) all begin size IsSent armed arming
-  halted-takes {U} halt IsSent is takes = record {
+      → OnRefusedEnd {T = Unit {0}} (Err halt) (ImagesTake size entries (length entries) m1 begun arming)
+      → OnUnread {T = Unit {0}} (Err halt) (TakesFirst size entries (AllUnstagedTake entries m1 begun arming))
+      → SendTakesBy {T = U} (Err halt) all begin size IsSent armed arming
+  halted-takes {U} halt IsSent is unswitched unread = record {
     done = tt;
-    unswitched = end-then (Unit {0}) U halt (ImagesTake size entries (length entries) m1 begun arming) (Takes all armed arming) (all-take arming) takes.unswitched;
-    unread = unread-then (Unit {0}) U halt (ImagesStart size entries m1 begun arming)
-        ((l : List Entry) × IsSent l × UnreadTakes begin size l armed arming) (λ start. (
+    unswitched = end-then (Unit {0}) U halt (ImagesTake size entries (length entries) m1 begun arming) (Takes all armed arming) (all-take arming) unswitched;
+    unread = unread-then (Unit {0}) U halt (TakesFirst size entries (AllUnstagedTake entries m1 begun arming))
+        ((l : List Entry) × IsSent l × TakesFirst size l (λ writes. Takes (begin + writes) armed arming)) (λ start. (
           entries,
           is,
           record {
@@ -143,7 +145,7 @@ module _ (passes : List ℕ → Bool) (entries : List Entry) (old m1 : Moment) (
             pieces = start.pieces;
             below = start.below;
             more = start.more;
-            takes = images-then (writes_up_to size entries start.images start.pieces) arming start.takes;
+            takes = images-then _ arming start.takes;
           },
-        )) takes.unread;
+        )) unread;
   }

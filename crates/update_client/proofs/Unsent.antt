@@ -1,5 +1,5 @@
 -- A sending that was not done, by how it ended.
-use Rattle.std.proofs.Common.{◌≡◌, ◌*◌, ◌<◌, ℕ, Bool, false, List, length, take, get_or, Option, Result, Ok, Err, refl, sym, subst, ◌∙◌, arith}
+use Rattle.std.proofs.Common.{◌≡◌, ◌+◌, ◌*◌, ◌<◌, ℕ, Bool, false, List, length, take, get_or, Option, Result, Ok, Err, refl, sym, subst, ◌∙◌, arith}
 use Rattle.std.specs.Prelude.{◌==◌}
 use Rattle.flash_core.specs.declared.flash.Arming.{Arming}
 use Rattle.host_io.specs.Contents.{Directory}
@@ -11,9 +11,9 @@ use Rattle.agent_machine.proofs.CallGoing.{MeetsAs}
 use Rattle.agent_calls.specs.Takes.{Takes, writes_of_pieces}
 use Rattle.agent_calls.proofs.{Pieces.next-piece, Taking.takes-then}
 use Rattle.update_client.specs.{declared.stops.SendStop.SendStop, Halts.StopsEnd, Halts.is_unread}
-use Rattle.update_client.specs.declared.stops.SendStop.TheVariants.{MissingImage, ImageTooLarge, Begin, End, ReadFailed}
+use Rattle.update_client.specs.declared.stops.SendStop.TheVariants.{End, ReadFailed}
 use Rattle.update_client.specs.Images.{SendsImages, no_entry, sent_parts}
-use Rattle.update_client.specs.Takes.{PayloadFrontTakes, ImageStarts, ImagesStart, ImagesTake, OnRefusedEnd, OnUnread, writes_in, writes_up_to}
+use Rattle.update_client.specs.Takes.{AllUnstagedTake, ImagesTake, OnRefusedEnd, OnUnread, TakesFirst, TakesFront, UnstagedTakes, UnwrittenTakes, writes_in}
 use Rattle.update_client.proofs.{SentImages.SendsFirst, ImagesTaking.FirstTaken, WrittenPiece.image-opened}
 use Rattle.update_client.proofs.Staging.{sent-long, sent-other}
 
@@ -47,7 +47,7 @@ end-of T (Err st) P Q by is = end-then T T st P Q by is
 
 -- a read failed behind the first pieces
 pub front-takes : (size : ℕ) (e : Entry) (at : ℕ) (old : Moment) (a b c : Option Arming) → at < e.size → c ≡ b → FirstTaken size e at old a b
-    → PayloadFrontTakes size e old a c
+    → TakesFront size e (λ w. UnwrittenTakes w e old a c)
 front-takes size e at old a b c more same front =
     let here : at ≡ size * front.count = next-piece size e.size at front.count front.pieces more in
     record {
@@ -61,7 +61,7 @@ front-takes size e at old a b c more same front =
 -- of an image that was opened
 pub image-starts : (size : ℕ) (e : Entry) (h : ℕ) (old opened : Moment) (a b c : Option Arming)
     → ((passes : List ℕ → Bool) → MeetsAs {T = ℕ} (λ k. reply.Opened k) (Ok h) passes (call.OpenWrite e.guid) old opened) → b ≡ a
-    → PayloadFrontTakes size e opened b c → ImageStarts size e old a c
+    → TakesFront size e (λ w. UnwrittenTakes w e opened b c) → TakesFront size e (λ w. UnstagedTakes w e old a c)
 image-starts size e h old opened a b c opens still front = record {
   pieces = front.pieces;
   more = front.more;
@@ -74,7 +74,7 @@ image-starts size e h old opened a b c opens still front = record {
 -- behind the first images
 pub images-start : (told : Option Directory) (name : List ℕ) (size : ℕ) (entries : List Entry) (request k : ℕ) (old mid : Moment) (a b c : Option Arming)
     → k < length entries → SendsFirst told name entries request k old mid → ImagesTake size entries k old a b
-    → ImageStarts size (get_or entries k no_entry) mid b c → ImagesStart size entries old a c
+    → TakesFront size (get_or entries k no_entry) (λ w. UnstagedTakes w (get_or entries k no_entry) mid b c) → TakesFirst size entries (AllUnstagedTake entries old a c)
 images-start told name size entries request k old mid a b c below first takes image = record {
   images = k;
   pieces = image.pieces;
@@ -85,7 +85,7 @@ images-start told name size entries request k old mid a b c below first takes im
       let at : length first.images ≡ k = first.count in
       let bit = request == 0 in
       takes-then (writes_in size (take k entries)) (writes_of_pieces size (get_or entries k no_entry).size image.pieces)
-      (writes_up_to size entries k image.pieces) a b c refl (takes E s boot parts places layout are shows)
+      (writes_in size (take k entries) + writes_of_pieces size (get_or entries k no_entry).size image.pieces) a b c refl (takes E s boot parts places layout are shows)
       (image.takes E s boot (sent_parts parts first.images places bit) (get_or places k 0) (layout ∙ sym one.stays.layout)
       (omega (arith, are.below k below, sent-long parts first.images places bit)) (are.found k below) (are.fit k below)
       (sent-other parts first.images places bit (get_or places k 0) (omega (arith, at, below, are.count))

@@ -16,10 +16,10 @@ use Rattle.agent_machine.specs.Meets.{IsSettingOf, flash_result}
 use Rattle.agent_machine.specs.declared.stop.Stop.TheVariants as stop
 use Rattle.agent_calls.specs.{Partly.begins_over, Copies.AnswersAs, Copies.BeginsPartly}
 use Rattle.agent_calls.proofs.BegunPartly.{held, held-is}
-use Rattle.update_client.specs.{declared.stops.Sent.Sent, declared.stops.SendStop.SendStop, Finishes.InstallsImages}
+use Rattle.update_client.specs.{declared.stops.Sent.Sent, declared.stops.SendStop.SendStop, Images.InstallsImages}
 use Rattle.update_client.specs.{Halts.unbegun_as, Images.AreUnstaged, Images.sent_parts, Sends.IsInstalled}
-use Rattle.update_client.specs.Choosing.{refused_image}
-use Rattle.update_client.specs.Partial.{AreWhole, GoesAs, WasBegun, IsCountedOver, SendsOver, over_answer, present, entry_types, AreSendable, InstallsOver}
+use Rattle.update_client.specs.Sends.{refused_image}
+use Rattle.update_client.specs.Partial.{AreWhole, GoesAs, WasBegun, IsCountedOver, SendsOver, over_answer, present, entry_types, SendsPresent, InstallsOver}
 use Rattle.update_client.proofs.{Installed.told_value, Installed.told-is, Named.copied-is, Named.named-is, Named.payloads-are}
 use Rattle.update_client.proofs.{Staging.IsPacked, Present.placed-in, Present.kept_parts, Present.places}
 use Rattle.update_client.proofs.Over.{done-bits, done-committed, done-package, over-payloads, sent-over, over_images}
@@ -84,7 +84,7 @@ module _ (toc : Toc) (passes : List ℕ → Bool) (old : Moment) where
   known-in : (E : Setting) → E.layout ≡ old.fields.layout → names_unknown rows types ≡ false → names_unknown E.layout.rows types ≡ false
   known-in E layout known = ap (λ (L : Layout). names_unknown L.rows types) layout ∙ known
 
-  module _ (known : names_unknown rows types ≡ false) (fit : IsTrue (fits_layout old.fields.layout)) (entries : List Entry) (are : AreSendable rows toc entries)
+  module _ (known : names_unknown rows types ≡ false) (fit : IsTrue (fits_layout old.fields.layout)) (entries : List Entry) (are : SendsPresent rows toc (Ok entries))
       (m1 : Moment) (begins : BeginsPartly types (are_named rows types) passes (Ok tt) old m1) where
     pub begun : (E : Setting) (s : State) (boot : ℕ) (staging : Option (List Staged)) (handles : List Handle) → E.layout ≡ old.fields.layout
         → E.passes ≡ passes → Shows old s (On boot staging handles)
@@ -174,7 +174,7 @@ module _ (toc : Toc) (passes : List ℕ → Bool) (old : Moment) where
         by-unbegun k was = was
 
     -- begun, and the images were sent into the staging
-    module _ (known : names_unknown rows types ≡ false) (fit : IsTrue (fits_layout old.fields.layout)) (entries : List Entry) (are : AreSendable rows toc entries)
+    module _ (known : names_unknown rows types ≡ false) (fit : IsTrue (fits_layout old.fields.layout)) (entries : List Entry) (are : SendsPresent rows toc (Ok entries))
         (m1 : Moment) (begins : BeginsPartly types (are_named rows types) passes (Ok tt) old m1) (new : Moment) where
       abbrev started : Started passes entries old m1
       started = over-started known fit entries are m1 begins
@@ -186,7 +186,7 @@ module _ (toc : Toc) (passes : List ℕ → Bool) (old : Moment) where
           → IsPacked (sent_parts started.parts images started.places (request == 0)) (over images) (bits old.fields.layout)
       packed images count =
           let bit = request == 0 in
-          let long = count ∙ ap (λ (l : List Entry). length l) are.entries_are in
+          let long = count ∙ ap (λ (l : List Entry). length l) are.1 in
           let is = sent-over toc begins.bytes bit [] 0 rows images refl long in
           record {
             package_is = ap (λ (ps : List Staged). staged_package ps) is ∙ done-package toc begins.bytes bit 0 rows images;
@@ -204,7 +204,7 @@ module _ (toc : Toc) (passes : List ℕ → Bool) (old : Moment) where
         copied = copied-of m1 (Ok tt) begins;
         whole = λ was. whole-of m1 begins;
         images = over inst.images;
-        read = λ file tells. ap over (inst.read file tells ∙ ap (map (payload file)) are.entries_are)
+        read = λ file tells. ap over (inst.read file tells ∙ ap (map (payload file)) are.1)
             ∙ over-payloads file toc begins.bytes 0 rows ∙ payloads-are file toc begins.bytes rows;
         goes = λ E s x layout verifier shows. each-on old (λ s x. GoesAs result (over_answer E toc (over inst.images) request s x) E old new s x)
             (λ s boot staging handles shows. goes E s boot staging handles layout verifier shows) s x shows;
@@ -213,13 +213,13 @@ module _ (toc : Toc) (passes : List ℕ → Bool) (old : Moment) where
       pub over-done : (sent : Sent) → IsCountedOver rows toc sent
           → InstallsImages told name entries request passes (Ok tt) m1 new → SendsOver told name toc request passes (Ok sent) old new
       over-done sent counted inst = over-by (Ok sent) (Ok tt) inst (λ E s boot staging handles layout verifier shows.
-          done-goes fault bits said old are.none E layout s boot staging handles passes verifier shows entries m1 new started told name request
+          done-goes fault bits said old are.0 E layout s boot staging handles passes verifier shows entries m1 new started told name request
           (over inst.images) inst (reply.SentPartial sent.images sent.skipped sent.copied) (packed inst.images inst.count) counted)
 
       pub over-halted : (halt : SendStop) → InstallsImages told name entries request passes (Err halt) m1 new
           → SendsOver told name toc request passes (Err halt) old new
       over-halted halt inst = over-by (Err halt) (Err halt) inst (λ E s boot staging handles layout verifier shows.
-          halted-goes fault bits said old are.none E layout s boot staging handles passes verifier shows entries m1 new started told name request
+          halted-goes fault bits said old are.0 E layout s boot staging handles passes verifier shows entries m1 new started told name request
           (over inst.images) halt inst (packed inst.images inst.count))
 
     -- ---- what is installed

@@ -15,10 +15,10 @@ use Rattle.agent_machine.specs.{declared.stop.Stop.Stop, Fields.target, Moment.M
 use Rattle.agent_machine.specs.{Meets.IsStopped, Meets.flash_result, Goes.GoesByMoves, Filling.between}
 use Rattle.agent_machine.specs.declared.stop.Stop.TheVariants as stop
 use Rattle.update_client.specs.{declared.stops.Sent.Sent, declared.stops.SendStop.SendStop, Halts.unbegun_as, Images.AreUnstaged}
-use Rattle.update_client.specs.{Images.sent_parts, Finishes.InstallsImages, Partial.GoesAs}
+use Rattle.update_client.specs.{Images.sent_parts, Images.InstallsImages, Partial.GoesAs}
 use Rattle.update_client.specs.declared.stops.SendStop.TheVariants.{Begin}
-use Rattle.update_client.specs.Choosing.{AreChosen, refused_image, no_entry}
-use Rattle.update_client.specs.Sends.{Installs, AllowsBegin, IsInstalled, IsSwitched, Sends, SendEndsBy, send_answer}
+use Rattle.fip_tables.specs.Images.{AreImages, no_entry}
+use Rattle.update_client.specs.Sends.{Chooses, Installs, AllowsBegin, IsInstalled, IsSwitched, Sends, SendEndsBy, refused_image, send_answer}
 use Rattle.std.specs.List.{range_with_len}
 use Rattle.agent_machine.proofs.CallGoing.{MeetsAs, call-goes, call-replies, call-stopped}
 use Rattle.update_client.proofs.{Installed.told_value, Installed.told-is, OwnImages.are-images}
@@ -47,13 +47,13 @@ images-are file toc (r ∷ rows) (e ∷ entries) count each =
 -- ---- the begin
 
 module _ (toc : Toc) (passes : List ℕ → Bool) (old : Moment) (entries : List Entry) (m1 : Moment) (fit : IsTrue (fits_layout old.fields.layout))
-    (chosen : AreChosen old.fields.layout.rows toc entries) (begins : (v : List ℕ → Bool) → MeetsAs of (Ok tt) v (call.Begin 0) old m1) where
+    (chosen : AreImages old.fields.layout.rows toc entries) (begins : (v : List ℕ → Bool) → MeetsAs of (Ok tt) v (call.Begin 0) old m1) where
   pub unstaged : (E : Setting) → E.layout ≡ old.fields.layout
       → AreUnstaged E entries (range_with_len 0 (length old.fields.layout.rows)) (replicate (length old.fields.layout.rows) Nothing)
   unstaged E layout =
       subst (λ (L : Layout). AreUnstaged E entries (range_with_len 0 (length L.rows)) (replicate (length L.rows) Nothing)) layout
       (are-images E toc entries (layout-distinct E.layout (subst (λ (L : Layout). IsTrue (fits_layout L)) (sym layout) fit)) (λ k. refl)
-      (subst (λ (L : Layout). AreChosen L.rows toc entries) (sym layout) chosen))
+      (subst (λ (L : Layout). AreImages L.rows toc entries) (sym layout) chosen))
 
   pub begun : (E : Setting) (s : State) (boot : ℕ) (staging : Option (List Staged)) (handles : List Handle) → E.layout ≡ old.fields.layout
       → Shows old s (On boot staging handles)
@@ -139,9 +139,9 @@ module _ (told : Option Directory) (name : List ℕ) (toc : Toc) (request : ℕ)
 
   -- begun, and the images were sent into the staging
   module _ (entries : List Entry) (m1 new : Moment) (fit : IsTrue (fits_layout old.fields.layout))
-      (chosen : AreChosen old.fields.layout.rows toc entries) (begins : (v : List ℕ → Bool) → MeetsAs of (Ok tt) v (call.Begin 0) old m1) where
+      (chosen : Chooses old.fields.layout.rows toc (Ok entries)) (begins : (v : List ℕ → Bool) → MeetsAs of (Ok tt) v (call.Begin 0) old m1) where
     abbrev started : Started passes entries old m1
-    started = whole-started toc passes old entries m1 fit chosen begins
+    started = whole-started toc passes old entries m1 fit chosen.1 begins
 
     sends-by : (result : Result Sent SendStop) (ended : Result (Unit {0}) SendStop) (inst : InstallsImages told name entries request passes ended m1 new)
         → ((E : Setting) (s : State) (boot : ℕ) (staging : Option (List Staged)) (handles : List Handle) → E.layout ≡ old.fields.layout → E.passes ≡ passes
@@ -149,27 +149,27 @@ module _ (told : Option Directory) (name : List ℕ) (toc : Toc) (request : ℕ)
         → Sends told name toc request passes result old new
     sends-by result ended inst goes = record {
       images = inst.images;
-      read = λ file tells. inst.read file tells ∙ images-are file toc old.fields.layout.rows entries chosen.count chosen.each;
+      read = λ file tells. inst.read file tells ∙ images-are file toc old.fields.layout.rows entries chosen.1.count chosen.1.each;
       goes = λ E s x layout verifier shows. each-on old (SendEndsBy result E toc inst.images request old new)
           (λ s boot staging handles shows. goes E s boot staging handles layout verifier shows) s x shows;
     }
 
     packed : (images : List (List ℕ)) → length images ≡ length entries
         → IsPacked (sent_parts started.parts images started.places (request == 0)) images (bits old.fields.layout)
-    packed images count = whole-packed (length old.fields.layout.rows) (request == 0) images (count ∙ chosen.count)
+    packed images count = whole-packed (length old.fields.layout.rows) (request == 0) images (count ∙ chosen.1.count)
 
     pub sends-done : (sent : Sent) → sent.images ≡ length old.fields.layout.rows
         → sent.skipped ≡ skipped old.fields.layout.rows toc → InstallsImages told name entries request passes (Ok tt) m1 new
         → Sends told name toc request passes (Ok sent) old new
     sends-done sent images others inst = sends-by (Ok sent) (Ok tt) inst (λ E s boot staging handles layout verifier shows.
-        done-goes fault bits said old chosen.none E layout s boot staging handles passes verifier shows entries m1 new started told name request inst.images
+        done-goes fault bits said old chosen.0 E layout s boot staging handles passes verifier shows entries m1 new started told name request inst.images
         inst (reply.Sent sent.images sent.skipped) (packed inst.images inst.count) (cc (images, others)))
 
     pub sends-halted : (halt : SendStop) → InstallsImages told name entries request passes (Err halt) m1 new
         → Sends told name toc request passes (Err halt) old new
     sends-halted halt inst = sends-by (Err halt) (Err halt) inst (λ E s boot staging handles layout verifier shows.
         ends-as halt E inst.images new s (On boot staging handles)
-        (halted-goes fault bits said old chosen.none E layout s boot staging handles passes verifier shows entries m1 new started told name request inst.images
+        (halted-goes fault bits said old chosen.0 E layout s boot staging handles passes verifier shows entries m1 new started told name request inst.images
         halt inst (packed inst.images inst.count)))
 
   -- ---- what is installed

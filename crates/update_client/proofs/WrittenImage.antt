@@ -8,7 +8,7 @@ use Rattle.fip_tables.specs.Files.{Tells}
 use Rattle.agent_machine.specs.{Moment.Moment, Moment.Shows, Goes.GoesByMoves, Filling.within}
 use Rattle.agent_machine.proofs.Going.{goes-then, goes-nothing}
 use Rattle.update_client.proofs.Halting.{halts-after}
-use Rattle.update_client.specs.{declared.stops.SendStop.SendStop, Halts.Halts, Pieces.WritesPiece, Pieces.WritesImage}
+use Rattle.update_client.specs.{declared.stops.SendStop.SendStop, Halts.Halts, Images.WritesPiece, Images.WritesImage}
 use Rattle.update_client.specs.declared.stops.SendStop.TheVariants.{ReadFailed}
 
 -- the first bytes of a payload were read and written

@@ -17,7 +17,7 @@ use Rattle.agent_machine.proofs.Filling.{open-answers, write-answers, commit-ans
 use Rattle.agent_calls.specs.Copies.{FollowsInStaging}
 use Rattle.agent_calls.proofs.Copies.{call-done, call-follows, no-opened, no-success}
 use Rattle.update_client.specs.{declared.stops.SendStop.SendStop, declared.stops.SendStop.TheVariants.ReadFailed, Halts.Halts}
-use Rattle.update_client.specs.{Halts.stopped_as, Pieces.WritesPiece, Pieces.WritesImage, Pieces.SendsImage}
+use Rattle.update_client.specs.{Halts.stopped_as, Images.WritesPiece, Images.WritesImage, Images.SendsImage}
 use Rattle.update_client.proofs.Halting.{halts-after, other-end}
 
 pub piece-unread : (told : Option Directory) (name : List ℕ) (e : Entry) (at : ℕ) (m : Moment)

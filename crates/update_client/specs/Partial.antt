@@ -5,7 +5,7 @@ use Rattle.fwu_model.specs.Reply as reply
 use Rattle.fwu_model.specs.{Session.Session, Session.Off, Session.On, State.State, Sound.Setting}
 use Rattle.fwu_model.specs.Answer.{Answer, answered, are_named, bits_over, image_held, images_over, install_unless, partial_fault, sent_over}
 use Rattle.agent_calls.specs.Takes.{writes_to_copy}
-use Rattle.update_client.specs.{Takes.writes_in, declared.stops.SendStop.SendStop, Choosing.refused_image}
+use Rattle.update_client.specs.{Takes.writes_in, declared.stops.SendStop.SendStop, Sends.refused_image}
 use Rattle.update_client.specs.{Sends.SendEndsAs, Sends.IsInstalled, declared.stops.Sent.Sent}
 use Rattle.update_client.specs.declared.stops.SendStop.TheVariants.{End, ReadFailed}
 pub use Rattle.fip_tables.specs.Images.{present}
@@ -18,13 +18,9 @@ use Rattle.agent_machine.specs.{Fields.Fields, Fields.total_of, Moment.Moment, M
 abbrev pub entry_types : List Entry → List (List ℕ)
 entry_types entries = map (λ (e : Entry). e.guid) entries
 
--- they are chosen where it has one at all and none is too large
-pub record AreSendable (rows : List ImageRow) (toc : Toc) (entries : List Entry) : Type 0 where
-  pub none : partial_fault rows toc ≡ None
-  pub entries_are : entries ≡ present rows toc
-
+-- those that the table has, where it has one at all and none is too large
 abbrev pub SendsPresent : List ImageRow → Toc → Result (List Entry) SendStop → Type 0
-SendsPresent rows toc (Ok entries) = AreSendable rows toc entries
+SendsPresent rows toc (Ok entries) = (partial_fault rows toc ≡ None) × (entries ≡ present rows toc)
 SendsPresent rows toc (Err fault) = refused_image (partial_fault rows toc) ≡ Some fault
 
 -- ---- the sending

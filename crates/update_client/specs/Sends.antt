@@ -1,17 +1,37 @@
 -- What a sending is to the machine.
 use Rattle.std.specs.Prelude.{◌≡◌, ◌↔◌, ◌⊎◌, ◌==◌, ℕ, Bool, List, [], length, replicate, Option, Some, None, Result, Ok, Err, IsErrAnd, IsTrue, ⊤}
-use Rattle.flash_core.specs.declared.flash.FlashStop.TheVariants as flash_stop
 use Rattle.host_io.specs.Contents.{Directory}
-use Rattle.fwu_formats.specs.{Layout.ImageRow, Package.Toc}
+use Rattle.fwu_formats.specs.{Layout.ImageRow, Package.Entry, Package.Toc}
 use Rattle.fwu_model.specs.{State.State, State.bank, State.update_bank, Sound.Setting, Reply.Reply}
 use Rattle.fwu_model.specs.Session.{Session, Off, On, no_handles}
-use Rattle.fwu_model.specs.Answer.{Answer, answer, answered, images_of, send_package, skipped}
+use Rattle.fwu_model.specs.Answer.{Answer, answer, answered, first_image_fault, images_of, send_package, skipped}
 use Rattle.fwu_model.specs.Call as call
 use Rattle.fwu_model.specs.Reply as reply
-use Rattle.fip_tables.specs.Files.{Tells}
+use Rattle.fip_tables.specs.{Files.Tells, Images.AreImages, declared.images.ImageFault.ImageFault}
+use Rattle.fip_tables.specs.declared.images.ImageFault.TheVariants as image
 use Rattle.agent_machine.specs.{Fields.Fields, Fields.target, Moment.Moment, Moment.Shows, Goes.GoesByMoves}
 use Rattle.update_client.specs.{Halts.flash_of, declared.stops.Sent.Sent, declared.stops.SendStop.SendStop}
-use Rattle.update_client.specs.declared.stops.SendStop.TheVariants.{MissingImage, ImageTooLarge, Begin, End, ReadFailed, Lost, Fault, Gone}
+use Rattle.update_client.specs.declared.stops.SendStop.TheVariants.{MissingImage, ImageTooLarge, Begin, End, ReadFailed, Gone}
+
+-- ---- which entries are sent
+
+-- the fault of an image, as a refusal
+abbrev pub refused_as : ImageFault → SendStop
+refused_as (image.Missing guid) = MissingImage guid
+refused_as (image.TooLarge guid) = ImageTooLarge guid
+
+-- and as the machine tells it
+abbrev pub refused_image : Option Reply → Option SendStop
+refused_image (Some (reply.Missing guid)) = Some (MissingImage guid)
+refused_image (Some (reply.TooLarge guid)) = Some (ImageTooLarge guid)
+refused_image other = None
+
+-- those of all images, by which the machine has no fault
+abbrev pub Chooses : List ImageRow → Toc → Result (List Entry) SendStop → Type 0
+Chooses rows toc (Ok entries) = (first_image_fault rows toc ≡ None) × AreImages rows toc entries
+Chooses rows toc (Err fault) = refused_image (first_image_fault rows toc) ≡ Some fault
+
+-- ---- the sending
 
 -- the machine's answer to a sending by the table that is given, of the images that were read
 abbrev pub send_answer : Setting → Toc → List (List ℕ) → ℕ → State → Session → Answer
@@ -43,11 +63,8 @@ SendEndsAs done (Err (Begin st)) a E old new s x = AnswersBy (reply.BeginRefused
 SendEndsAs done (Err (End st)) a E old new s x = AnswersBy (reply.EndRefused st) a E old new s
 SendEndsAs done (Err ReadFailed) a E old new s x =
     AllowsBegin E s x × GoesByMoves E (Ok tt) old new s (answer E s x (call.Begin 0)).moves (ended_session x)
-SendEndsAs done (Err Lost) a E old new s x =
-    AllowsBegin E s x × GoesByMoves E (Err flash_stop.Lost) old new s a.moves (ended_session x)
-SendEndsAs done (Err Fault) a E old new s x =
-    AllowsBegin E s x × GoesByMoves E (Err flash_stop.Failed) old new s a.moves (ended_session x)
 SendEndsAs done (Err Gone) a E old new s x = ⊥
+SendEndsAs done stopped a E old new s x = AllowsBegin E s x × GoesByMoves E (flash_of stopped) old new s a.moves (ended_session x)
 
 abbrev pub SendEndsBy : Result Sent SendStop → Setting → Toc → List (List ℕ) → ℕ → Moment → Moment → State → Session → Type 0
 SendEndsBy result E toc p request old new s x =

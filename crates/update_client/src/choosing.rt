@@ -2,7 +2,7 @@
 ghost use Rattle.std.specs.Prelude.{◌≡◌, ◌<◌, ◌≤◌, length};
 ghost use Rattle.fwu_formats.specs.Layout.{find_image};
 ghost use Rattle.fwu_model.specs.Answer.{skipped as others_in};
-ghost use Rattle.update_client.specs.Choosing.{Chooses, refused_as};
+ghost use Rattle.update_client.specs.Sends.{Chooses, refused_as};
 ghost use Rattle.update_client.specs.Partial.{SendsPresent};
 
 use crate::stops::SendStop;

@@ -2,11 +2,9 @@
 ghost use Rattle.std.specs.Prelude.{◌≡◌, ◌<◌, length, IsFalse, OnOk};
 ghost use Rattle.agent_machine.specs.Ends.{TakesSwitch};
 ghost use Rattle.agent_calls.specs.Shown.{SpentBy, device, gone, moment};
-ghost use Rattle.update_client.specs.Finishes.{FinishesBy, InstallsImages};
+ghost use Rattle.update_client.specs.Images.{FinishesBy, HoldsPayloads, InstallsImages, KeepsBeside, SparesOthers};
 ghost use Rattle.update_client.specs.Halts.{StopsEnd, flash_of};
-ghost use Rattle.update_client.specs.Packages.{HoldsPayloads};
-ghost use Rattle.update_client.specs.Pieces.{KeepsBeside, SparesOthers};
-ghost use Rattle.update_client.specs.Takes.{InstallTakesBy, OnRefusedEnd};
+ghost use Rattle.update_client.specs.Takes.{AllUnstagedTake, ImagesTake, InstallTakes, OnRefusedEnd, OnUnread, TakesFirst};
 
 use crate::images::send_images;
 use crate::packages::Payloads;
@@ -57,8 +55,13 @@ pub fn install<D: Flash, H: Files, V: Verifier>(
 
     ensures installs { InstallsImages (H.contents files.old) payloads.now.name.now payloads.now.entries.now
         acceptance (V.passes verifier.now) result (moment agent.old) (moment agent.new) }
-    ensures takes { InstallTakesBy result (length buf.old) payloads.now.entries.now (moment agent.old)
-        (D.arming (device agent.old)) (D.arming (device agent.new)) }
+    // when done, all images and their switch; where the end is refused, not the switch
+    ensures takes { OnOk result (InstallTakes (length buf.old) payloads.now.entries.now (moment agent.old)
+        (D.arming (device agent.old)) (D.arming (device agent.new))) }
+    ensures unswitched { OnRefusedEnd result (ImagesTake (length buf.old) payloads.now.entries.now
+        (length payloads.now.entries.now) (moment agent.old) (D.arming (device agent.old)) (D.arming (device agent.new))) }
+    ensures unread { OnUnread result (TakesFirst (length buf.old) payloads.now.entries.now
+        (AllUnstagedTake payloads.now.entries.now (moment agent.old) (D.arming (device agent.old)) (D.arming (device agent.new)))) }
     ensures keeps { KeepsBeside H.Files payloads.now.name.now result agent.old agent.new files.old files.new
         buf.old buf.new }
 {

@@ -1,10 +1,9 @@
 //! Sending the images of a package.
-ghost use Rattle.std.specs.Prelude.{◌<◌, length, IsFalse};
+ghost use Rattle.std.specs.Prelude.{◌<◌, length, IsFalse, OnOk};
 ghost use Rattle.agent_calls.specs.Shown.{device, gone, moment};
-ghost use Rattle.update_client.specs.Images.{SendsImages};
-ghost use Rattle.update_client.specs.Packages.{HoldsPayload, HoldsPayloads};
-ghost use Rattle.update_client.specs.Pieces.{KeepsBeside, SendsImage};
-ghost use Rattle.update_client.specs.Takes.{ImageTakesBy, ImagesTakeBy};
+ghost use Rattle.agent_calls.specs.Takes.{writes_of_image};
+ghost use Rattle.update_client.specs.Images.{HoldsPayload, HoldsPayloads, KeepsBeside, SendsImage, SendsImages};
+ghost use Rattle.update_client.specs.Takes.{AllUnstagedTake, ImagesTake, OnUnread, TakesFirst, TakesFront, UnstagedTakes};
 
 use crate::packages::{Payload, Payloads};
 use crate::pieces::{stopped, write_image};
@@ -29,8 +28,11 @@ pub fn send_image<D: Flash, H: Files>(
 
     ensures sent { SendsImage (H.contents files.old) payload.now.name.now payload.now.entry.now acceptance
         result (moment agent.old) (moment agent.new) }
-    ensures takes { ImageTakesBy result (length buf.old) payload.now.entry.now (moment agent.old)
-        (D.arming (device agent.old)) (D.arming (device agent.new)) }
+    ensures takes { OnOk result (UnstagedTakes (writes_of_image (length buf.old) payload.now.entry.now.size) payload.now.entry.now
+        (moment agent.old) (D.arming (device agent.old)) (D.arming (device agent.new))) }
+    // the first pieces, where the file could not be read
+    ensures unread { OnUnread result (TakesFront (length buf.old) payload.now.entry.now (λ writes. UnstagedTakes writes
+        payload.now.entry.now (moment agent.old) (D.arming (device agent.old)) (D.arming (device agent.new)))) }
     ensures keeps { KeepsBeside H.Files payload.now.name.now result agent.old agent.new files.old files.new
         buf.old buf.new }
 {
@@ -60,8 +62,11 @@ pub fn send_images<D: Flash, H: Files>(
 
     ensures sent { SendsImages (H.contents files.old) payloads.now.name.now payloads.now.entries.now acceptance
         result (moment agent.old) (moment agent.new) }
-    ensures takes { ImagesTakeBy result (length buf.old) payloads.now.entries.now (moment agent.old)
-        (D.arming (device agent.old)) (D.arming (device agent.new)) }
+    ensures takes { OnOk result (ImagesTake (length buf.old) payloads.now.entries.now (length payloads.now.entries.now)
+        (moment agent.old) (D.arming (device agent.old)) (D.arming (device agent.new))) }
+    // the first of them, and the first pieces of the next one, where the file could not be read
+    ensures unread { OnUnread result (TakesFirst (length buf.old) payloads.now.entries.now
+        (AllUnstagedTake payloads.now.entries.now (moment agent.old) (D.arming (device agent.old)) (D.arming (device agent.new)))) }
     ensures keeps { KeepsBeside H.Files payloads.now.name.now result agent.old agent.new files.old files.new
         buf.old buf.new }
 {

@@ -1,11 +1,10 @@
 //! Writing the payload of an image.
-ghost use Rattle.std.specs.Prelude.{◌≡◌, ◌<◌, length, IsFalse, IfOk};
+ghost use Rattle.std.specs.Prelude.{◌≡◌, ◌<◌, length, IsFalse, IfOk, OnOk};
 ghost use Rattle.agent_calls.specs.Shown.{device, gone, moment};
-ghost use Rattle.agent_calls.specs.Takes.{piece_at};
+ghost use Rattle.agent_calls.specs.Takes.{piece_at, pieces_of, writes_of_pieces};
 ghost use Rattle.update_client.specs.Halts.{stopped_as, unbegun_as, is_unread as was_unread};
-ghost use Rattle.update_client.specs.Packages.{HoldsPayload};
-ghost use Rattle.update_client.specs.Pieces.{KeepsBeside, WritesImage, WritesPiece};
-ghost use Rattle.update_client.specs.Takes.{OnUnread, PayloadTakesBy, PayloadPieceTakes};
+ghost use Rattle.update_client.specs.Images.{HoldsPayload, KeepsBeside, WritesImage, WritesPiece};
+ghost use Rattle.update_client.specs.Takes.{OnUnread, PayloadPieceTakes, TakesFront, UnwrittenTakes};
 
 use crate::packages::Payload;
 use crate::stops::SendStop;
@@ -93,8 +92,12 @@ pub fn write_image<D: Flash, H: Files>(
 
     ensures wrote { WritesImage (H.contents files.old) payload.now.name.now payload.now.entry.now result
         (moment agent.old) (moment agent.new) }
-    ensures takes { PayloadTakesBy result (length buf.old) payload.now.entry.now (moment agent.old)
-        (D.arming (device agent.old)) (D.arming (device agent.new)) }
+    ensures takes { let e = payload.now.entry.now in let size = length buf.old in OnOk result (UnwrittenTakes
+        (writes_of_pieces size e.size (pieces_of size e.size)) e
+        (moment agent.old) (D.arming (device agent.old)) (D.arming (device agent.new))) }
+    // the first pieces, where the file could not be read
+    ensures unread { OnUnread result (TakesFront (length buf.old) payload.now.entry.now (λ writes. UnwrittenTakes writes
+        payload.now.entry.now (moment agent.old) (D.arming (device agent.old)) (D.arming (device agent.new)))) }
     ensures keeps { KeepsBeside H.Files payload.now.name.now result agent.old agent.new files.old files.new
         buf.old buf.new }
 {

@@ -3,17 +3,16 @@ ghost use Rattle.std.specs.Prelude.{◌≡◌, ◌+◌, ◌<◌, length, IsFalse
 ghost use Rattle.flash_core.specs.Calls.{Goes};
 ghost use Rattle.fwu_model.specs.State.{State};
 ghost use Rattle.fwu_model.specs.Session.{Session};
+ghost use Rattle.fip_tables.specs.Images.{AreImages};
 ghost use Rattle.agent_machine.specs.Beside.{SparesBlocksByAll};
 ghost use Rattle.agent_machine.specs.Moment.{Shows};
 ghost use Rattle.fwu_model.specs.Answer.{first_image_fault};
 ghost use Rattle.host_io.specs.Reads.{ReadsFile};
 ghost use Rattle.agent_calls.specs.Shown.{device, fields, gone, moment};
 ghost use Rattle.update_client.specs.Halts.{flash_of};
-ghost use Rattle.update_client.specs.Packages.{HoldsPayloads};
-ghost use Rattle.update_client.specs.Pieces.{ReadsPieceBy};
+ghost use Rattle.update_client.specs.Images.{HoldsPayloads, ReadsPieceBy};
 ghost use Rattle.update_client.specs.Sends.{FaultsBy, GoneBy, Installs, IsCounted, IsEarlySend, IsSwitched, Sends};
 ghost use Rattle.agent_calls.specs.Takes.{writes_to_begin};
-ghost use Rattle.update_client.specs.Choosing.{AreChosen};
 ghost use Rattle.update_client.specs.Takes.{SendTakesBy, writes_sent};
 
 use crate::choosing::{choose, skipped};
@@ -86,7 +85,7 @@ pub fn send<D: Flash, H: Files, V: Verifier>(
     // Each write has as many bytes as the buffer, but the last one of an image.
     ensures takes { let f = fields agent.old in SendTakesBy result
         (writes_to_begin f + writes_sent (length buf.old) f.layout.rows toc.now) (writes_to_begin f) (length buf.old)
-        (AreChosen f.layout.rows toc.now) (D.arming (device agent.old)) (D.arming (device agent.new)) }
+        (AreImages f.layout.rows toc.now) (D.arming (device agent.old)) (D.arming (device agent.new)) }
     ensures buffer { length buf.new ≡ length buf.old }
     ensures files { ReadsFile H.Files name.now files.old files.new }
     ensures reads { ReadsPieceBy (H.faults files.old) (H.faults files.new) result }

@@ -10,7 +10,7 @@ use Rattle.fip_tables.specs.{Files.Tells, Images.no_entry}
 use Rattle.fwu_formats.specs.{Layout.ImageRow, Layout.slot_total, Layout.start, Layout.slot_bytes, Package.Entry, Package.payload, Layout.no_row}
 use Rattle.fwu_formats.proofs.SealLaws.{limits}
 use Rattle.image_check.proofs.OfBank.{bank_fits}
-use Rattle.flash_format.specs.{Places.HoldsThenErased, Planned.pieces_in, Planned.block_pieces_of}
+use Rattle.flash_format.specs.{Places.HoldsThenErased, Choosing.pieces_in, Choosing.block_pieces_of}
 use Rattle.flash_format.proofs.{Ranges.erased_stays, Taking.pieces_all, Taking.pieces_more, Stopped.unarmed_then}
 use Rattle.flash_format.proofs.Recorded.{left_then, left_fewer}
 use Rattle.flash_format.proofs.Formats.{slots_more, slots_more_le, all_stand_more}

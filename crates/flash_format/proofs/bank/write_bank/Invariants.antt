@@ -4,7 +4,7 @@ use Rattle.flash_core.specs.{Counts.Spends, Counts.StaysUnarmed, Counts.lowered_
 use Rattle.fwu_formats.specs.Layout.{slot_total}
 use Rattle.host_io.specs.Reads.{ReadsFile}
 use Rattle.fip_tables.specs.Files.{Tells}
-use Rattle.flash_format.specs.{Places.LeavesNoMore, Places.Erased, Places.AllStand, Planned.pieces_in}
+use Rattle.flash_format.specs.{Places.LeavesNoMore, Places.Erased, Places.AllStand, Choosing.pieces_in}
 use Rattle.flash_format.proofs.bank.write_bank.Given as goal
 
 abbrev pub invariant-loop-k : goal.invariant-loop-k

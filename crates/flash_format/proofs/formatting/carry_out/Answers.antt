@@ -1,6 +1,6 @@
 use Rattle.std.proofs.Common.{◌≡◌, ℕ, length, ap, subst, arith, Result, Err}
 use Rattle.std.specs.Prelude.{IsTrue, OnOk}
-use Rattle.flash_format.specs.{Places.IsBare, Planned.IsFilled, Stops.flash_result, declared.stops.FormatStop.FormatStop}
+use Rattle.flash_format.specs.{Places.IsBare, Choosing.IsFilled, Stops.flash_result, declared.stops.FormatStop.FormatStop}
 use Rattle.flash_format.specs.declared.stops.FormatStop.TheVariants.{ReadFailed}
 use Rattle.flash_core.specs.Told.{NothingDirty}
 use Rattle.flash_format.proofs.{Given.finishes_more, Stopped.handed-on}

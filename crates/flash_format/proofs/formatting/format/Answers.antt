@@ -10,7 +10,7 @@ use Rattle.image_check.specs.Passed.{HasPassed}
 use Rattle.flash_format.specs.{Stops.FormatFinishes, declared.formatting.Formatted.Formatted, declared.stops.FormatStop.FormatStop}
 use Rattle.flash_format.specs.{declared.stops.FormatStop.TheVariants.Input, declared.stops.InputFault.TheVariants.Incomplete}
 use Rattle.flash_format.specs.Formatted.{asked_layout, HoldsImages, IsBlank, IsInOrder, IsRefusedFormat}
-use Rattle.flash_format.specs.Planned.{IsFilled, FormatTakes, writes_to_format}
+use Rattle.flash_format.specs.Choosing.{IsFilled, FormatTakes, writes_to_format}
 use Rattle.flash_format.proofs.{Formats.not_refused, Taking.pieces_fit, Stopped.handed-on}
 use Rattle.flash_format.proofs.Given.{IsFitted, fitted_is, hold_given, finishes_err}
 use Rattle.flash_format.proofs.formatting.format.Given as given

@@ -3,7 +3,7 @@ use Rattle.fwu_model.specs.Call.{Call, open_call}
 use Rattle.fwu_model.specs.Reply as reply
 use Rattle.agent_machine.specs.declared.stop.Stop.{Stop}
 use Rattle.agent_calls.specs.Shown.{fields}
-use Rattle.script_turns.specs.{Calls.reply_by, Turning.quiet_turn}
+use Rattle.script_turns.specs.{Replies.reply_by, Turning.quiet_turn}
 use Rattle.script_turns.proofs.CallTakes.{same-device}
 use Rattle.script_turns.proofs.Called.{called-open, meta-open, never-gone, shown-open, takes-open, turns-by}
 use Rattle.script_turns.proofs.calling.open_turn.Goals as goal

@@ -6,7 +6,7 @@ use Rattle.host_io.proofs.Reading.{reads-then}
 use Rattle.fip_tables.specs.Files.{Lacks}
 use Rattle.fwu_model.specs.{Causes.LacksFile, Call.Call}
 use Rattle.fwu_model.specs.Reply as reply
-use Rattle.script_turns.specs.{Calls.moment_where, Turning.quiet_turn, Sending.send_call}
+use Rattle.script_turns.specs.{Replies.moment_where, Turning.quiet_turn, Sending.send_call}
 use Rattle.script_turns.proofs.SendTurns.{bad-table, lacks-file, moment-as, turns-as, unread-table}
 use Rattle.script_turns.proofs.Quiets.{same-device}
 use Rattle.script_turns.proofs.sending.send_turn.Goals as goal

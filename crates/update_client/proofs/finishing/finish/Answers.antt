@@ -3,7 +3,7 @@ use Rattle.fwu_model.specs.Call as call
 use Rattle.fwu_model.specs.Reply as reply
 use Rattle.agent_machine.specs.{declared.stop.Stop.Stop, Meets.GoesBy}
 use Rattle.agent_calls.specs.Shown.{gone, moment}
-use Rattle.update_client.specs.{declared.stops.SendStop.SendStop, Finishes.FinishesBy}
+use Rattle.update_client.specs.{declared.stops.SendStop.SendStop, Images.FinishesBy}
 use Rattle.update_client.proofs.Finished.{finish-done, finish-lost, finish-failed, finish-refused, finish-halted, still-here}
 use Rattle.update_client.proofs.Sparing.{spares-left, spares-then}
 use Rattle.update_client.proofs.finishing.finish.Goals as goal

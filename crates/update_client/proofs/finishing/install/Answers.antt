@@ -3,7 +3,7 @@ use Rattle.std.proofs.lemmas.Result.{on_ok_weaker}
 use Rattle.flash_core.specs.declared.flash.FlashStop.{FlashStop}
 use Rattle.agent_calls.specs.Shown.{SpentBy, device, moment}
 use Rattle.update_client.specs.{declared.stops.SendStop.SendStop, declared.stops.SendStop.TheVariants.ReadFailed, Halts.flash_of}
-use Rattle.update_client.specs.{Halts.is_unread, Images.SendsImages, Pieces.KeepsBeside, Takes.ImagesTake}
+use Rattle.update_client.specs.{Halts.is_unread, Images.SendsImages, Images.KeepsBeside, Takes.ImagesTake}
 use Rattle.update_client.proofs.{Keeping.keeps-ended, Keeping.keeps-then, Sparing.spares-left, Sparing.spares-then}
 use Rattle.update_client.proofs.{Spending.unstopped, Unsent.end-of, Unsent.end-read, Unsent.images-no-end, Unsent.other-read}
 use Rattle.update_client.proofs.Installed.{installed, uncancelled, interrupted, unread-is}
@@ -29,30 +29,32 @@ returns-else-not-is_unread-clause-installs g c =
 
 pub returns-in-Ok-clause-takes : goal.returns-in-Ok-clause-takes
 returns-in-Ok-clause-takes g c =
+    on_ok_weaker c.finish.result (λ ends. record {
+      sent = g.D.Flash.arming (device c.send_images.new.agent);
+      images = c.in-Ok.ensures.takes;
+      switch = ends;
+    }) c.finish.ensures.takes
+
+pub returns-in-Ok-clause-unswitched : goal.returns-in-Ok-clause-unswitched
+returns-in-Ok-clause-unswitched g c =
     let entries = c.args.payloads.now.entries.now in
     let size = length c.args.buf.now in
     let old = moment c.args.agent.now in
     let armed = g.D.Flash.arming (device c.args.agent.now) in
-    let taken = c.in-Ok.ensures.takes.done in
-    record {
-      done = on_ok_weaker c.finish.result (λ ends. record {
-        sent = g.D.Flash.arming (device c.send_images.new.agent);
-        images = taken;
-        switch = ends;
-      }) c.finish.ensures.takes;
-      unswitched = end-of (Unit {0}) c.finish.result (device c.finish.new.agent ≡ device c.send_images.new.agent)
-          (ImagesTake size entries (length entries) old armed (g.D.Flash.arming (device c.finish.new.agent)))
-          (λ same. subst (λ d. ImagesTake size entries (length entries) old armed (g.D.Flash.arming d)) (sym same) taken) c.finish.ensures.unswitched;
-      unread = end-read (Unit {0}) c.finish.result _ c.finish.ensures.stops;
-    }
+    end-of (Unit {0}) c.finish.result (device c.finish.new.agent ≡ device c.send_images.new.agent)
+    (ImagesTake size entries (length entries) old armed (g.D.Flash.arming (device c.finish.new.agent)))
+    (λ same. subst (λ d. ImagesTake size entries (length entries) old armed (g.D.Flash.arming d)) (sym same) c.in-Ok.ensures.takes) c.finish.ensures.unswitched
 
-pub returns-then-not-is_unread-clause-takes : goal.returns-then-not-is_unread-clause-takes
-returns-then-not-is_unread-clause-takes g c = record {
-  done = tt;
-  unswitched = images-no-end _ _ (length c.args.buf.now) c.args.payloads.now.entries.now _ c.in-Err.stop (moment c.args.agent.now) (moment c.send_images.new.agent) _ _
-      c.in-Err.ensures.sent;
-  unread = other-read (Unit {0}) c.in-Err.stop _ (sym c.is_unread.ensures ∙ c.if-not-is_unread.true);
-}
+pub returns-in-Ok-clause-unread : goal.returns-in-Ok-clause-unread
+returns-in-Ok-clause-unread g c = end-read (Unit {0}) c.finish.result _ c.finish.ensures.stops
+
+pub returns-then-not-is_unread-clause-unswitched : goal.returns-then-not-is_unread-clause-unswitched
+returns-then-not-is_unread-clause-unswitched g c =
+    images-no-end _ _ (length c.args.buf.now) c.args.payloads.now.entries.now _ c.in-Err.stop (moment c.args.agent.now) (moment c.send_images.new.agent) _ _
+    c.in-Err.ensures.sent
+
+pub returns-then-not-is_unread-clause-unread : goal.returns-then-not-is_unread-clause-unread
+returns-then-not-is_unread-clause-unread g c = other-read (Unit {0}) c.in-Err.stop _ (sym c.is_unread.ensures ∙ c.if-not-is_unread.true)
 
 pub returns-in-Ok-clause-keeps : goal.returns-in-Ok-clause-keeps
 returns-in-Ok-clause-keeps g c =

@@ -3,9 +3,9 @@ use Rattle.fwu_formats.specs.Package.{Entry}
 use Rattle.fwu_model.specs.Call as call
 use Rattle.fwu_model.specs.Reply as reply
 use Rattle.agent_machine.proofs.CallGoing.{MeetsAs}
-use Rattle.agent_calls.specs.{Shown.device, Shown.moment, Takes.pieces_of}
-use Rattle.update_client.specs.{declared.stops.SendStop.SendStop, Pieces.SendsImage}
-use Rattle.update_client.specs.Takes.{FirstTake, PayloadFrontTakes, ImageStarts}
+use Rattle.agent_calls.specs.{Shown.device, Shown.moment, Takes.pieces_of, Takes.writes_of_pieces}
+use Rattle.update_client.specs.{declared.stops.SendStop.SendStop, Images.SendsImage}
+use Rattle.update_client.specs.Takes.{TakesFront, UnstagedTakes, UnwrittenTakes}
 use Rattle.update_client.proofs.{ImagesTaking.image-takes, Sparing.spares-left, Unsent.image-starts, Unsent.unread-then}
 use Rattle.update_client.proofs.WrittenPiece.{image-unopened, image-unwritten, image-sent, image-uncommitted}
 use Rattle.update_client.proofs.Keeping.{keeps-called, keeps-stopped, keeps-then}
@@ -48,17 +48,16 @@ pub returns-in-Ok-commit-clause-takes : goal.returns-in-Ok-commit-clause-takes
 returns-in-Ok-commit-clause-takes g c =
     let opens = subst (λ (guid : List ℕ). (passes : List ℕ → Bool) → MeetsAs {T = ℕ} (λ k. reply.Opened k) (Ok c.in-Ok.field-0) passes (call.OpenWrite guid)
     (moment c.args.agent.now) (moment c.open.new.self)) (ap (λ (e : Entry). e.guid) c.entry.view_is) (c.in-Ok.ensures.meets c.requires.here) in
-    record {
-      done = image-takes _ _ (length c.args.buf.now) _ c.in-Ok.field-0 _ (moment c.open.new.self) (moment c.write_image.new.agent) _
-          (g.D.Flash.arming (device c.write_image.new.agent)) _ opens c.in_ok-write_image.ensures.wrote
-          (subst (λ d. FirstTake (length c.args.buf.now) c.args.payload.now.entry.now (pieces_of (length c.args.buf.now) c.args.payload.now.entry.now.size) (moment c.open.new.self)
-          (g.D.Flash.arming d) (g.D.Flash.arming (device c.write_image.new.agent))) c.in-Ok.ensures.still c.in_ok-write_image.ensures.takes.done)
-          (λ image writes. (c.in-Ok-commit.ensures.image c.in_ok-write_image.ensures.keeps.spent.gone_is image writes).spent.lowered);
-      unread = tt;
-    }
+    let size = length c.args.buf.now in
+    let e = c.args.payload.now.entry.now in
+    image-takes _ _ size _ c.in-Ok.field-0 _ (moment c.open.new.self) (moment c.write_image.new.agent) _
+    (g.D.Flash.arming (device c.write_image.new.agent)) _ opens c.in_ok-write_image.ensures.wrote
+    (subst (λ d. UnwrittenTakes (writes_of_pieces size e.size (pieces_of size e.size)) e (moment c.open.new.self)
+    (g.D.Flash.arming d) (g.D.Flash.arming (device c.write_image.new.agent))) c.in-Ok.ensures.still c.in_ok-write_image.ensures.takes)
+    (λ image writes. (c.in-Ok-commit.ensures.image c.in_ok-write_image.ensures.keeps.spent.gone_is image writes).spent.lowered)
 
-pub returns-in_err-write_image-clause-takes : goal.returns-in_err-write_image-clause-takes
-returns-in_err-write_image-clause-takes g c =
+pub returns-in_err-write_image-clause-unread : goal.returns-in_err-write_image-clause-unread
+returns-in_err-write_image-clause-unread g c =
     rw (handed-on c.from_residual.result c.in_err-write_image.field-0.0 c.from_residual.ensures.1) (
     let opens = subst (λ (guid : List ℕ). (passes : List ℕ → Bool) → MeetsAs {T = ℕ} (λ k. reply.Opened k) (Ok c.in-Ok.field-0) passes (call.OpenWrite guid)
     (moment c.args.agent.now) (moment c.open.new.self)) (ap (λ (e : Entry). e.guid) c.entry.view_is) (c.in-Ok.ensures.meets c.requires.here) in
@@ -67,13 +66,10 @@ returns-in_err-write_image-clause-takes g c =
     let armed = g.D.Flash.arming (device c.args.agent.now) in
     let opened = g.D.Flash.arming (device c.open.new.self) in
     let arming = g.D.Flash.arming (device c.write_image.new.agent) in
-    record {
-      done = tt;
-      unread = unread-then (Unit {0}) (Unit {0}) c.in_err-write_image.field-0.0 (PayloadFrontTakes size entry (moment c.open.new.self) opened arming)
-          (ImageStarts size entry (moment c.args.agent.now) armed arming)
-          (λ front. image-starts size entry c.in-Ok.field-0 (moment c.args.agent.now) (moment c.open.new.self) armed opened arming opens
-          (ap (λ d. g.D.Flash.arming d) c.in-Ok.ensures.still) front) c.in_err-write_image.ensures.takes.unread;
-    })
+    unread-then (Unit {0}) (Unit {0}) c.in_err-write_image.field-0.0 (TakesFront size entry (λ w. UnwrittenTakes w entry (moment c.open.new.self) opened arming))
+    (TakesFront size entry (λ w. UnstagedTakes w entry (moment c.args.agent.now) armed arming))
+    (λ front. image-starts size entry c.in-Ok.field-0 (moment c.args.agent.now) (moment c.open.new.self) armed opened arming opens
+    (ap (λ d. g.D.Flash.arming d) c.in-Ok.ensures.still) front) c.in_err-write_image.ensures.unread)
 
 pub returns-in-Err-clause-keeps : goal.returns-in-Err-clause-keeps
 returns-in-Err-clause-keeps g c = rw c.stopped.ensures (keeps-stopped g.H.Files g.met.H.Files.at_rest g.met.H.Files.joins c.args.payload.now.name.now (Unit {0}) c.in-Err.stop c.args.agent.now c.open.new.self _ _

@@ -5,8 +5,8 @@ use Rattle.update_client.proofs.ImagesTaking.{images-take-none, images-take-more
 use Rattle.update_client.proofs.SentImages.{images-none, images-more, images-stopped, images-done}
 use Rattle.host_io.specs.Contents.{Directory}
 use Rattle.fwu_formats.specs.Package.{Entry}
-use Rattle.agent_calls.specs.Shown.{device, moment}
-use Rattle.update_client.specs.{Pieces.SendsImage, Images.no_entry, Takes.ImageTakes, Takes.ImageStarts, Takes.ImagesStart}
+use Rattle.agent_calls.specs.{Shown.device, Shown.moment, Takes.writes_of_image}
+use Rattle.update_client.specs.{Images.SendsImage, Images.no_entry, Takes.AllUnstagedTake, Takes.TakesFirst, Takes.TakesFront, Takes.UnstagedTakes}
 use Rattle.base_core.proofs.Results.{handed-on}
 use Rattle.update_client.proofs.images.send_images.Goals as goal
 
@@ -29,10 +29,10 @@ loop-k-preserved g c =
     (moment c.send_image.new.agent)) before.keeps.files.same
     (subst (λ (e : Entry). SendsImage (g.H.Files.contents c.loop-k.files) name e c.args.acceptance (Ok tt) (moment c.loop-k.agent)
     (moment c.send_image.new.agent)) at c.in_ok-send_image.ensures.sent) in
-    let takes = subst (λ (n : ℕ). ImageTakes n (get_or entries k no_entry) (moment c.loop-k.agent)
+    let takes = subst (λ (n : ℕ). UnstagedTakes (writes_of_image n (get_or entries k no_entry).size) (get_or entries k no_entry) (moment c.loop-k.agent)
     (g.D.Flash.arming (device c.loop-k.agent)) (g.D.Flash.arming (device c.send_image.new.agent))) before.keeps.buffer
-    (subst (λ (e : Entry). ImageTakes (length c.loop-k.buf) e (moment c.loop-k.agent) (g.D.Flash.arming (device c.loop-k.agent))
-    (g.D.Flash.arming (device c.send_image.new.agent))) at c.in_ok-send_image.ensures.takes.done) in
+    (subst (λ (e : Entry). UnstagedTakes (writes_of_image (length c.loop-k.buf) e.size) e (moment c.loop-k.agent) (g.D.Flash.arming (device c.loop-k.agent))
+    (g.D.Flash.arming (device c.send_image.new.agent))) at c.in_ok-send_image.ensures.takes) in
     record {
       first = images-more _ _ _ _ k below _ (moment c.loop-k.agent) _ before.first image;
       takes = images-take-more _ _ (length c.args.buf.now) _ _ k _ (moment c.loop-k.agent) _ _ _ below before.first before.takes takes;
@@ -43,10 +43,8 @@ pub returns-clause-sent : goal.returns-clause-sent
 returns-clause-sent g c = images-done _ _ _ _ c.loop-k.k _ _ (omega (arith, c.loop-k-test.false, c.loop-k.auto.k-end)) c.loop-k.invariant.first
 
 pub returns-clause-takes : goal.returns-clause-takes
-returns-clause-takes g c = record {
-  done = images-take-all (length c.args.buf.now) c.args.payloads.now.entries.now c.loop-k.k _ _ _ (omega (arith, c.loop-k-test.false)) c.loop-k.invariant.takes;
-  unread = tt;
-}
+returns-clause-takes g c =
+    images-take-all (length c.args.buf.now) c.args.payloads.now.entries.now c.loop-k.k _ _ _ (omega (arith, c.loop-k-test.false)) c.loop-k.invariant.takes
 
 pub returns-in_err-send_image-clause-sent : goal.returns-in_err-send_image-clause-sent
 returns-in_err-send_image-clause-sent g c =
@@ -63,8 +61,8 @@ returns-in_err-send_image-clause-sent g c =
     (moment c.loop-k.agent) (moment c.send_image.new.agent)) at c.in_err-send_image.ensures.sent) in
     images-stopped _ _ _ _ k below _ (moment c.loop-k.agent) _ before.first c.in_err-send_image.field-0.0 image)
 
-pub returns-in_err-send_image-clause-takes : goal.returns-in_err-send_image-clause-takes
-returns-in_err-send_image-clause-takes g c =
+pub returns-in_err-send_image-clause-unread : goal.returns-in_err-send_image-clause-unread
+returns-in_err-send_image-clause-unread g c =
     rw (handed-on c.from_residual.result c.in_err-send_image.field-0.0 c.from_residual.ensures.1) (
     let before = c.loop-k.invariant in
     let k = c.loop-k.k in
@@ -77,14 +75,11 @@ returns-in_err-send_image-clause-takes g c =
     let armed = g.D.Flash.arming (device c.args.agent.now) in
     let mid = g.D.Flash.arming (device c.loop-k.agent) in
     let arming = g.D.Flash.arming (device c.send_image.new.agent) in
-    record {
-      done = tt;
-      unread = unread-then (Unit {0}) (Unit {0}) c.in_err-send_image.field-0.0 (ImageStarts now c.index-entries-k.result from mid arming)
-          (ImagesStart size entries (moment c.args.agent.now) armed arming)
-          (λ starts. images-start _ _ size entries _ k (moment c.args.agent.now) from armed mid arming below before.first before.takes
-          (subst (λ (n : ℕ). ImageStarts n (get_or entries k no_entry) from mid arming) before.keeps.buffer
-          (subst (λ (x : Entry). ImageStarts now x from mid arming) at starts))) c.in_err-send_image.ensures.takes.unread;
-    })
+    unread-then (Unit {0}) (Unit {0}) c.in_err-send_image.field-0.0 (TakesFront now c.index-entries-k.result (λ w. UnstagedTakes w c.index-entries-k.result from mid arming))
+    (TakesFirst size entries (AllUnstagedTake entries (moment c.args.agent.now) armed arming))
+    (λ starts. images-start _ _ size entries _ k (moment c.args.agent.now) from armed mid arming below before.first before.takes
+    (subst (λ (n : ℕ). TakesFront n (get_or entries k no_entry) (λ w. UnstagedTakes w (get_or entries k no_entry) from mid arming)) before.keeps.buffer
+    (subst (λ (x : Entry). TakesFront now x (λ w. UnstagedTakes w x from mid arming)) at starts))) c.in_err-send_image.ensures.unread)
 
 pub returns-in_err-send_image-clause-keeps : goal.returns-in_err-send_image-clause-keeps
 returns-in_err-send_image-clause-keeps g c =

@@ -2,7 +2,7 @@ use Rattle.std.proofs.Common.{length}
 use Rattle.std.specs.Prelude.{Ok}
 use Rattle.agent_calls.specs.Shown.{device, moment}
 use Rattle.update_client.proofs.SentImages.{SendsFirst}
-use Rattle.update_client.specs.{Pieces.KeepsBeside, Takes.ImagesTake}
+use Rattle.update_client.specs.{Images.KeepsBeside, Takes.ImagesTake}
 use Rattle.update_client.proofs.images.send_images.Given as goal
 
 abbrev pub invariant-loop-k : goal.invariant-loop-k

@@ -6,7 +6,7 @@ use Rattle.update_client.proofs.Keeping.{keeps-none, keeps-ok, keeps-on, keeps-t
 use Rattle.update_client.proofs.Unsent.{front-takes, unread-then}
 use Rattle.fwu_formats.specs.Package.{Entry}
 use Rattle.agent_calls.specs.{Shown.device, Shown.moment, Takes.piece_at}
-use Rattle.update_client.specs.{Pieces.WritesPiece, Takes.PayloadFrontTakes}
+use Rattle.update_client.specs.{Images.WritesPiece, Takes.TakesFront, Takes.UnwrittenTakes}
 use Rattle.base_core.proofs.Results.{handed-on}
 use Rattle.update_client.proofs.pieces.write_image.Goals as goal
 
@@ -48,27 +48,21 @@ returns-in_err-at-clause-wrote g c =
 pub returns-clause-takes : goal.returns-clause-takes
 returns-clause-takes g c =
     let size = ap (λ (e : Entry). e.size) c.entry.view_is in
-    record {
-      done = first-taken-all (length c.args.buf.now) c.args.payload.now.entry.now _ _ _ _ c.requires.room (omega (arith, c.loop-at-test.false, size)) c.loop-at.invariant.takes;
-      unread = tt;
-    }
+    first-taken-all (length c.args.buf.now) c.args.payload.now.entry.now _ _ _ _ c.requires.room (omega (arith, c.loop-at-test.false, size)) c.loop-at.invariant.takes
 
 -- a read that failed
-pub returns-in_err-at-clause-takes : goal.returns-in_err-at-clause-takes
-returns-in_err-at-clause-takes g c =
+pub returns-in_err-at-clause-unread : goal.returns-in_err-at-clause-unread
+returns-in_err-at-clause-unread g c =
     rw (handed-on c.from_residual.result c.in_err-at.field-0.0 c.from_residual.ensures.1) (
     let size = length c.args.buf.now in
     let entry = c.args.payload.now.entry.now in
     let armed = g.D.Flash.arming (device c.args.agent.now) in
     let arming = g.D.Flash.arming (device c.write_piece.new.agent) in
     let more : c.loop-at.at < entry.size = omega (arith, c.loop-at-test.true, ap (λ (e : Entry). e.size) c.entry.view_is) in
-    record {
-      done = tt;
-      unread = unread-then ℕ (Unit {0}) c.in_err-at.field-0.0 (c.write_piece.new.agent ≡ c.loop-at.agent)
-          (PayloadFrontTakes size entry (moment c.args.agent.now) armed arming)
-          (λ same. front-takes size entry c.loop-at.at (moment c.args.agent.now) armed (g.D.Flash.arming (device c.loop-at.agent)) arming more
-          (ap (λ a. g.D.Flash.arming (device a)) same) c.loop-at.invariant.takes) c.in_err-at.ensures.unsent;
-    })
+    unread-then ℕ (Unit {0}) c.in_err-at.field-0.0 (c.write_piece.new.agent ≡ c.loop-at.agent)
+    (TakesFront size entry (λ w. UnwrittenTakes w entry (moment c.args.agent.now) armed arming))
+    (λ same. front-takes size entry c.loop-at.at (moment c.args.agent.now) armed (g.D.Flash.arming (device c.loop-at.agent)) arming more
+    (ap (λ a. g.D.Flash.arming (device a)) same) c.loop-at.invariant.takes) c.in_err-at.ensures.unsent)
 
 pub returns-in_err-at-clause-keeps : goal.returns-in_err-at-clause-keeps
 returns-in_err-at-clause-keeps g c =

@@ -1,7 +1,7 @@
 use Rattle.std.proofs.Common.{◌-◌, ◌≤◌, length}
 use Rattle.std.specs.Prelude.{Ok}
 use Rattle.agent_calls.specs.Shown.{device, moment}
-use Rattle.update_client.specs.Pieces.{KeepsBeside}
+use Rattle.update_client.specs.Images.{KeepsBeside}
 use Rattle.update_client.proofs.{WrittenImage.WritesFirst, ImagesTaking.FirstTaken}
 use Rattle.update_client.proofs.pieces.write_image.Given as goal
 

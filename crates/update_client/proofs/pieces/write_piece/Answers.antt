@@ -5,7 +5,7 @@ use Rattle.flash_core.specs.Counts.{lowered_by}
 use Rattle.slot_writer.specs.Writes.{writes_to_append}
 use Rattle.agent_kept.specs.Kept.{part_at, size_of}
 use Rattle.agent_calls.specs.Shown.{device, fields, moment}
-use Rattle.update_client.specs.{declared.stops.SendStop.SendStop, Pieces.WritesPiece}
+use Rattle.update_client.specs.{declared.stops.SendStop.SendStop, Images.WritesPiece}
 use Rattle.update_client.proofs.{ImagesTaking.piece-takes, Sparing.spares-left}
 use Rattle.update_client.proofs.WrittenPiece.{piece-unread, piece-written, piece-stopped}
 use Rattle.update_client.proofs.Keeping.{keeps-called, keeps-read, keeps-stopped, keeps-then}

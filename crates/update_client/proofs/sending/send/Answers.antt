@@ -1,9 +1,9 @@
-use Rattle.std.proofs.Common.{◌≡◌, ◌+◌, ◌^◌, ◌<◌, ◌≤◌, List, length, Some, Err, sym, ap, subst, ◌∙◌}
+use Rattle.std.proofs.Common.{◌≡◌, ◌+◌, ◌^◌, ◌<◌, ◌≤◌, List, length, Some, Ok, Err, sym, ap, subst, ◌∙◌}
 use Rattle.fwu_formats.specs.{Layout.ImageRow, Layout.fits_layout, Package.Entry}
 use Rattle.fwu_model.specs.Answer.{first_image_fault, skipped}
 use Rattle.agent_calls.specs.{Shown.device, Shown.fields, Shown.gone, Shown.moment, Takes.Takes, Takes.writes_to_begin}
-use Rattle.update_client.specs.{Choosing.AreChosen, Choosing.refused_image, Halts.flash_of, Packages.HoldsPayloads}
-use Rattle.update_client.specs.{declared.stops.Sent.Sent, Takes.writes_sent, Takes.writes_in, Pieces.SparesOthers}
+use Rattle.update_client.specs.{Sends.Chooses, Sends.refused_image, Halts.flash_of, Images.HoldsPayloads}
+use Rattle.update_client.specs.{declared.stops.Sent.Sent, Takes.writes_sent, Takes.writes_in, Images.SparesOthers}
 use Rattle.agent_machine.proofs.{Showing.shows-some, Spending.call-spent, Spending.spent-then}
 use Rattle.update_client.proofs.{Chosen.chosen_have, Sparing.spares-left, Sparing.spares-then, ImagesTaking.writes-chosen}
 use Rattle.update_client.proofs.Spending.{goes-of, here-before, not-gone}
@@ -20,8 +20,8 @@ use Rattle.std.specs.Prelude.{ℕ, IsTrue, IsFalse}
 pub install-requires-clause-payloads : goal.install-requires-clause-payloads
 install-requires-clause-payloads g c = subst (λ (l : List Entry). HoldsPayloads (g.H.Files.contents c.args.files.now) c.args.name.now l) (sym c.as_slice.ensures)
     (record {
-      ends = chosen_have (λ e. e.offset + e.size < 2 ^ 64) _ c.args.toc.now c.in_ok-entries.entries c.in_ok-entries.ensures c.requires.payloads.ends;
-      stored = λ file told. chosen_have (λ e. e.offset + e.size ≤ length file) _ c.args.toc.now c.in_ok-entries.entries c.in_ok-entries.ensures
+      ends = chosen_have (λ e. e.offset + e.size < 2 ^ 64) _ c.args.toc.now c.in_ok-entries.entries c.in_ok-entries.ensures.1 c.requires.payloads.ends;
+      stored = λ file told. chosen_have (λ e. e.offset + e.size ≤ length file) _ c.args.toc.now c.in_ok-entries.entries c.in_ok-entries.ensures.1
           (c.requires.payloads.stored file told);
       there = c.requires.payloads.there;
     })
@@ -33,13 +33,13 @@ returns-in_err-entries-clause-sends g c =
     (first_image_fault rows c.args.toc.now) ≡ Some c.in_err-entries.field-0.0) c.rows.ensures.value c.in_err-entries.ensures))
 
 module _ (g : given.Over) (c : After-begin g) where
-  chosen : AreChosen c.args.agent.now.layout.rows c.args.toc.now c.in_ok-entries.entries
-  chosen = subst (λ (rows : List ImageRow). AreChosen rows c.args.toc.now c.in_ok-entries.entries) c.rows.ensures.value c.in_ok-entries.ensures
+  chosen : Chooses c.args.agent.now.layout.rows c.args.toc.now (Ok c.in_ok-entries.entries)
+  chosen = subst (λ (rows : List ImageRow). Chooses rows c.args.toc.now (Ok c.in_ok-entries.entries)) c.rows.ensures.value c.in_ok-entries.ensures
 
 module _ (g : given.Over) (c : After-install g) where
-  is-chosen : AreChosen c.args.agent.now.layout.rows c.args.toc.now c.as_slice.result.now
-  is-chosen = subst (λ (rows : List ImageRow). AreChosen rows c.args.toc.now c.as_slice.result.now) c.rows.ensures.value
-      (subst (λ (l : List Entry). AreChosen c.rows.result.now c.args.toc.now l) (sym c.as_slice.ensures) c.in_ok-entries.ensures)
+  is-chosen : Chooses c.args.agent.now.layout.rows c.args.toc.now (Ok c.as_slice.result.now)
+  is-chosen = subst (λ (rows : List ImageRow). Chooses rows c.args.toc.now (Ok c.as_slice.result.now)) c.rows.ensures.value
+      (subst (λ (l : List Entry). Chooses c.rows.result.now c.args.toc.now (Ok l)) (sym c.as_slice.ensures) c.in_ok-entries.ensures)
 
   here : IsFalse (gone c.args.agent.now)
   here = here-before _ _ c.in-Ok.ensures.goes.gone
@@ -49,7 +49,7 @@ module _ (g : given.Over) (c : After-install g) where
 
   -- the staging that was begun
   abbrev started : Started (g.V.Verifier.passes c.args.verifier.now) c.as_slice.result.now (moment c.args.agent.now) (moment c.begin.new.self)
-  started = whole-started c.args.toc.now _ _ _ _ fit is-chosen (c.in-Ok.ensures.meets here)
+  started = whole-started c.args.toc.now _ _ _ _ fit is-chosen.1 (c.in-Ok.ensures.meets here)
 
   shown : ∥ Showing (moment c.args.agent.now) ∥₁
   shown =
@@ -64,7 +64,7 @@ module _ (g : given.Over) (c : After-install g) where
   sum : (size : ℕ) → writes_to_begin (fields c.args.agent.now) + writes_in size c.as_slice.result.now
       ≡ writes_to_begin (fields c.args.agent.now) + writes_sent size (fields c.args.agent.now).layout.rows c.args.toc.now
   sum size = ap (λ (n : ℕ). writes_to_begin (fields c.args.agent.now) + n)
-      (writes-chosen size (fields c.args.agent.now).layout.rows c.args.toc.now c.as_slice.result.now is-chosen.count is-chosen.each)
+      (writes-chosen size (fields c.args.agent.now).layout.rows c.args.toc.now c.as_slice.result.now is-chosen.1.count is-chosen.1.each)
 
   -- which blocks the begin spares
   spared : SparesOthers (moment c.args.agent.now) (moment c.begin.new.self)
@@ -72,7 +72,7 @@ module _ (g : given.Over) (c : After-install g) where
 
 pub returns-in-Err-clause-sends : goal.returns-in-Err-clause-sends
 returns-in-Err-clause-sends g c = λ here. rw c.unbegun.ensures
-    (sends-unbegun _ _ _ _ _ _ c.in-Err.stop _ (chosen g (goal.at.returns-in-Err-clause-sends g c).After-begin).none
+    (sends-unbegun _ _ _ _ _ _ c.in-Err.stop _ (chosen g (goal.at.returns-in-Err-clause-sends g c).After-begin).0
     (not-gone {T = Unit {0}} c.in-Err.stop _ here c.in-Err.ensures.goes.gone.gone.0) (c.in-Err.ensures.meets here)
     (λ is E s x layout shows. c.in-Err.ensures.begun is here E s x layout shows))
 
@@ -94,7 +94,7 @@ returns-in_err-install-clause-sends g c =
 pub returns-clause-installs : goal.returns-clause-installs
 returns-clause-installs g c = λ here s x shows.
     let p = (goal.at.returns-clause-installs g c).After-install in
-    installs-done _ _ _ _ _ _ _ _ (returns-clause-sends g c here) (fit g p) (is-chosen g p).none s x shows
+    installs-done _ _ _ _ _ _ _ _ (returns-clause-sends g c here) (fit g p) (is-chosen g p).0 s x shows
 
 pub returns-clause-switched : goal.returns-clause-switched
 returns-clause-switched g c = λ here.
@@ -122,12 +122,12 @@ pub returns-clause-takes : goal.returns-clause-takes
 returns-clause-takes g c =
     let p = (goal.at.returns-clause-takes g c).After-install in
     let size = length c.args.buf.now in
-    done-takes _ _ _ _ (started g p) (shown g p) size _ _ (sum g p size) _ _ _ (begun g p) _ _ c.in_ok-install.ensures.takes.done
+    done-takes _ _ _ _ (started g p) (shown g p) size _ _ (sum g p size) _ _ _ (begun g p) _ _ c.in_ok-install.ensures.takes
 
 pub returns-in_err-install-clause-takes : goal.returns-in_err-install-clause-takes
 returns-in_err-install-clause-takes g c =
     let p = (goal.at.returns-in_err-install-clause-takes g c).After-install in
     let size = length c.args.buf.now in
     rw (handed-on c.from_residual-in_err-install.result c.in_err-install.field-0.0 c.from_residual-in_err-install.ensures.1)
-    (halted-takes _ _ _ _ (started g p) (shown g p) size _ _ (sum g p size) _ _ _ (begun g p) c.in_err-install.field-0.0 _ (is-chosen g p)
-    c.in_err-install.ensures.takes)
+    (halted-takes _ _ _ _ (started g p) (shown g p) size _ _ (sum g p size) _ _ _ (begun g p) c.in_err-install.field-0.0 _ (is-chosen g p).1
+    c.in_err-install.ensures.unswitched c.in_err-install.ensures.unread)
