@@ -30,8 +30,9 @@ most_of d = d.device.value.most
 abbrev pub told_of : StepFlash → Told
 told_of d = device.told_of d.device.value
 
+-- the loss that is armed, and where there is none a far one, so that what a call says of an armed loss counts its steps
 abbrev pub arming_of : StepFlash → Option Arming
-arming_of d = d.device.value.arming
+arming_of d = device.arming_of d.device.value
 
 -- it may fail, and loses no power
 abbrev pub counts_of : StepFlash → Counts
