@@ -3,7 +3,7 @@ use Rattle.std.proofs.Common.{◌≡◌, ℕ, Bool, true, false, List, Option, S
 use Rattle.flash_core.specs.May.{Leaves, NoChance}
 use Rattle.flash_core.specs.Told.{Told, Operation, fresh, put, halt, settle}
 use Rattle.flash_core.proofs.Calls.{may_now}
-use Rattle.step_flash.specs.{Device.back_on, Guard.start_with, Stopped.under_as}
+use Rattle.step_flash.specs.{Device.back_on, Guard.start_with, Steps.under_as}
 
 module _ (u : Option Operation) (live : Bool) (r : Told) where
   -- an erase or a program was stopped

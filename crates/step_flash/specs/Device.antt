@@ -11,7 +11,7 @@ use Rattle.flash_core.specs.{declared.flash.FlashStop.FlashStop, declared.flash.
 use Rattle.flash_core.specs.Counts.{Fires, Idles, ReachesNone, Rose, Spends, arming_kept, arming_spent, landed_of}
 use Rattle.step_flash.specs.{declared.device.StepDevice.StepDevice, declared.device.StepParts.StepParts, declared.step.Step.Step}
 use Rattle.step_flash.specs.{declared.stopped.Stopped.Stopped, Guard.start_with, Steps.NotesBytes, Steps.is_barrier, Steps.run_with}
-use Rattle.step_flash.specs.{Stopped.under_as, Stopped.under_of, Writes.LiesBeside, Writes.LiesWithin, Writes.arming_by, Writes.erases_and_programs, Writes.writes_in}
+use Rattle.step_flash.specs.{Steps.under_as, Steps.under_of, Writes.LiesBeside, Writes.LiesWithin, Writes.arming_by, Writes.erases_and_programs, Writes.writes_in}
 
 -- the image with the steps done
 abbrev pub after_steps : StepDevice → Told
@@ -67,7 +67,8 @@ pub record NotesProgram (at : ℕ) (bytes : List ℕ) (result : Result (Unit {0}
 -- ---- what each call promises as the trait has it
 
 -- what is told after a call that may fail, what it leaves of an armed loss, and its power, size and counts
-pub record CallsDevice (told : Told) (armed : Option Arming) (result : Result (Unit {0}) FlashStop) (old new : StepDevice) : Type 0 where
+pub record CallsDevice (told : Told) (armed : Option Arming) (result : Result (Unit {0}) FlashStop)
+    (old new : StepDevice) : Type 0 where
   pub content : IsTrue true → told_of new ≡ told
   pub power : new.on ≡ is_ok result
   pub size : new.blocks ≡ old.blocks
@@ -156,7 +157,8 @@ ahead_by : (armed : Option Arming) (most : ℕ) (steps : List Step) → length s
     → ForSome (arming_by armed most steps) (λ a. 1 ≤ a.n)
 unfolding erases_and_programs
 ahead_by None most steps few ahead = λ a is.
-    let n : most + 4294967296 - erases_and_programs steps ≡ a.n = cc in omega (arith, n, few, count_by-le-length (λ s. not (is_barrier s)) steps)
+    let n : most + 4294967296 - erases_and_programs steps ≡ a.n = cc in
+    omega (arith, n, few, count_by-le-length (λ s. not (is_barrier s)) steps)
 ahead_by (Some armed) most steps few ahead = ahead
 
 pub device_ahead : (d : StepDevice) → ForSome (arming_of d) (λ armed. 1 ≤ armed.n)

@@ -6,7 +6,7 @@ ghost use Rattle.step_flash.specs.Flash.{device_in, steps_of, arming_of, block_c
 ghost use Rattle.step_flash.specs.Flash.{most_of, package_of, told_of, writes_of};
 ghost use Rattle.step_flash.specs.Guard.{start_with};
 ghost use Rattle.step_flash.specs.Steps.{AreDoable, IsInsideWith, barrier_step, erase_step, room_bytes};
-ghost use Rattle.step_flash.specs.Unmade.{IsUnmade};
+ghost use Rattle.step_flash.specs.Flash.{IsUnmade};
 
 use crate::device::{StepDevice, StepParts};
 use flash_core::{Flash, FlashStop};

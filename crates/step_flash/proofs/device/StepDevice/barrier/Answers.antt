@@ -1,6 +1,6 @@
 use Rattle.std.proofs.Common.{inl, inr, sym, subst, ap, refl, rules, ◌∙◌, List}
 use Rattle.std.proofs.lemmas.Bool.{cases_Bool}
-use Rattle.step_flash.specs.{Guard.start_with, Steps.barrier_step, Steps.run_with, Stopped.under_of, declared.step.Step.Step}
+use Rattle.step_flash.specs.{Guard.start_with, Steps.barrier_step, Steps.run_with, Steps.under_of, declared.step.Step.Step}
 use Rattle.step_flash.specs.Device.{after_steps, none_under}
 use Rattle.step_flash.proofs.{Armings.arming_settled, Places.barrier_meets_none, Places.step_touches, Calls.settle_noted}
 use Rattle.step_flash.proofs.Noted.{Fits, barrier_fits, run_push}

@@ -1,7 +1,7 @@
 use Rattle.std.proofs.Common.{arith, rules, sym, subst, ap, refl, ◌≡◌, ◌∙◌, ◌*◌, ◌%◌, ◌+◌, ◌≤◌, List}
 use Rattle.std.specs.Option.{ForSome}
 use Rattle.base_core.specs.Block.{blank, block_bytes}
-use Rattle.step_flash.specs.{Guard.start_with, Stopped.under_of, Steps.erase_step, Steps.run_with, declared.step.Step.Step}
+use Rattle.step_flash.specs.{Guard.start_with, Steps.under_of, Steps.erase_step, Steps.run_with, declared.step.Step.Step}
 use Rattle.step_flash.specs.Device.{after_steps, none_under}
 use Rattle.step_flash.specs.Writes.{IsArmed}
 use Rattle.step_flash.proofs.{Armings.arming_noted, Armings.lowered_ahead, Armings.undue_by, Calls.put_noted, Places.step_touches}

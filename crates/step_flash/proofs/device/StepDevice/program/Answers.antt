@@ -1,6 +1,6 @@
 use Rattle.std.proofs.Common.{rules, ◌≡◌, ◌∙◌, ap, sym, subst, refl, ◌+◌, ◌≤◌, ℕ, Bool, List, length, slice_range, true}
 use Rattle.std.specs.Option.{ForSome}
-use Rattle.step_flash.specs.{Guard.start_with, Stopped.under_of, Steps.TakesProgram, Steps.run_with}
+use Rattle.step_flash.specs.{Guard.start_with, Steps.under_of, Steps.TakesProgram, Steps.run_with}
 use Rattle.step_flash.specs.Device.{after_steps, back_on, none_under}
 use Rattle.step_flash.specs.Writes.{IsArmed}
 use Rattle.step_flash.proofs.{Armings.arming_programmed, Armings.lowered_ahead, Armings.undue_by, Calls.put_noted, Places.program_touches}
