@@ -1,6 +1,6 @@
 -- A call behind a boot of a bank, by what the device tells before it and after it, and by its steps.
 use Rattle.std.proofs.Common.{[], ◌≡◌, ◌∙◌, ◌⊎◌, inl, inr, cond, refl, ap, sym, subst, ℕ, ◌++◌, ◌≤◌, Bool, true, false, List, None, Result, Ok, Err, arith, IsFalse, IsTrue}
-use Rattle.std.specs.Prelude.{IsErrOf, OnOk, Some, is_ok, ⊤}
+use Rattle.std.specs.Prelude.{IsErrOf, OnOk, Option, Some, is_ok, option_map, unwrap_or, ⊤}
 use Rattle.base_core.specs.Block.{block_bytes}
 use Rattle.base_core.proofs.Results.{same-Ok}
 use Rattle.flash_core.specs.{Told.Told, May.Guards, Touches.TouchesOnly, Counts.Spends}
@@ -30,10 +30,10 @@ use Rattle.step_flash.specs.{declared.step.Step.Step, declared.flash.StepFlash.S
 use Rattle.step_flash.specs.Flash.{counts_of, image_of, told_of, writes_of}
 use Rattle.step_flash.proofs.Causes.{never_lost}
 use Rattle.fwu_c.specs.{Agents.MovesByAnswer, Reports.SameBut, declared.report.Report.Report}
-use Rattle.fwu_c.specs.Calls.{CallEnds, CallsBy, CallsFrom, IsAccepted, RepliesAs, ReportsTakeUp, TakesUp, call_code, meta_accepted, meta_made, take_up_code}
+use Rattle.fwu_c.specs.Calls.{CallEnds, CallsBy, CallsFrom, IsAccepted, RepliesAs, ReportsTakeUp, TakesUp, call_code, meta_made, take_up_code}
 use Rattle.fwu_c.specs.Handed.{HandsOver, IsJustMade, IsDeviceEnd, call_reach, is_idle_number}
 use Rattle.fwu_c.proofs.Telling.{starts_none}
-use Rattle.fwu_c.proofs.Booting.{counted_from_none, over, same_then, start_same}
+use Rattle.fwu_c.proofs.Booting.{counted_from_none, over, same_then, start_same, unwritten}
 
 -- ---- numbers
 
@@ -152,7 +152,8 @@ accepts_meta guid b f image m from found is =
     let now = rw from.meta at is in
     elim (set_or_same (bit_at b.meta.meta b.meta.meta.active image) b.meta (meta_after b.meta.meta (move.Accept image))) [
       | inl same ↦ inl (now ∙ same)
-      | inr later ↦ inr (now ∙ later ∙ sym (ap (meta_accepted b.meta) here))
+      | inr later ↦ inr (now ∙ later ∙ sym (ap (λ (i : Option ℕ).
+          unwrap_or (option_map (λ x. record b.meta { meta = meta_after b.meta.meta (move.Accept x) }) i) b.meta) here))
     ]
 
 pub back_meta : (b : Started) (f : Fields) (m : MetaRead) → StartsFrom b f → (m ≡ f.meta) ⊎ (m ≡ meta_back f)
@@ -253,7 +254,7 @@ module _ (bank : ℕ) (c : Call) (first d : StepFlash) (made : IsJustMade [] fir
     ends = ends;
     made = over [] first d told r steps room made
         (guard ∙ take_up_guard bank (told_of first) (told_of mid) e takes.ends.by_bytes) hands;
-    places = hands.lie.places 1 3 (counted_from_none block_bytes call_reach made.unwritten
+    places = hands.lie.places 1 3 (counted_from_none block_bytes call_reach (unwritten made)
         (touches_then block_bytes call_reach takes.touches touches));
     reports = take_up_same e old told r hands.same takes.reports;
   }

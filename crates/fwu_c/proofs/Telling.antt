@@ -3,12 +3,12 @@ use Rattle.std.proofs.Common.{◌≡◌, ◌⊎◌, ◌==◌, inl, inr, refl, ap
 use Rattle.fwu_c.specs.declared.report.Report.{Report}
 use Rattle.fwu_c.specs.Handed.{IsJustMade, HasFlashSize, IsDeviceEnd, KeepsReport, TellsSteps, is_idle_number, unmade_code}
 use Rattle.std.specs.Prelude.{◌↔◌, ◌||◌, IsTrue}
-use Rattle.step_flash.specs.{declared.step.Step.Step, declared.flash.Unmade.Unmade, Unmade.IsUnmade, Writes.LiesWithin}
+use Rattle.step_flash.specs.{declared.step.Step.Step, declared.flash.Unmade.Unmade, Flash.IsUnmade, Writes.LiesWithin}
 use Rattle.step_flash.specs.{Device.LieAsCounted, declared.flash.StepFlash.StepFlash, Flash.device_in, Flash.image_of, Flash.writes_of}
 use Rattle.step_flash.specs.declared.flash.Unmade.TheVariants.{NoFlash, NoMemory}
 use Rattle.base_core.specs.Block.{block_bytes}
 use Rattle.flash_core.specs.Touches.{TouchesOnly}
-use Rattle.fwu_c.proofs.Booting.{counted_from_none}
+use Rattle.fwu_c.proofs.Booting.{counted_from_none, unwritten}
 
 pub keeps_stays : (number : ℕ) (r : Report) → KeepsReport number r r
 keeps_stays number r = record {
@@ -50,7 +50,7 @@ pub lie_inside : (file : List ℕ) (first d : StepFlash) (last : ℕ) (steps : L
 lie_inside file first d last steps made few touches lie =
     let s = first.device.value in
     lie_further block_bytes (block_bytes * last) _ steps (omega (arith, few, s.size, s.sizes.0))
-    (lie.places 1 last (counted_from_none block_bytes (block_bytes * last) made.unwritten touches))
+    (lie.places 1 last (counted_from_none block_bytes (block_bytes * last) (unwritten made) touches))
 
 -- 6 comes of all bytes that are no flash, and of no others
 pub unmade_by : (image : List ℕ) (why : Unmade) → IsUnmade (length image) why → (unmade_code why ≡ 6) ↔ (HasFlashSize image → ⊥)

@@ -3,7 +3,7 @@ use Rattle.std.proofs.Common.{Bool, ◌≡◌, ◌∙◌, inl, refl, ℕ, ◌+�
 use Rattle.std.proofs.Math.ListN.{get_or-map}
 use Rattle.std.specs.Prelude.{All, IsTrue, IsFalse}
 use Rattle.base_core.specs.Block.{block_bytes}
-use Rattle.flash_core.specs.Told.{Told, fresh}
+use Rattle.flash_core.specs.Told.{Told}
 use Rattle.fwu_formats.specs.{Digests.passes_any, Image.layout_seen, Image.deciding, declared.kinds.LayoutFault.LayoutFault}
 use Rattle.fwu_formats.specs.{declared.kinds.BankState.TheVariants.Invalid, Places.counter_block}
 use Rattle.fwu_formats.specs.Layout.{Layout, fits_layout, start}
@@ -15,7 +15,7 @@ use Rattle.early_boot.specs.{Numbers.ShowsNumbers, Started.Started, Ends.Ended, 
 use Rattle.early_boot.proofs.Touching.{boot-spares}
 use Rattle.step_flash.specs.{declared.step.Step.Step, declared.flash.StepFlash.StepFlash, Flash.block_count, Flash.image_of}
 use Rattle.step_flash.specs.{Flash.steps_of, Flash.told_of, Flash.writes_of, Guard.start_with, Writes.LiesWithin, Writes.writes_in}
-use Rattle.fwu_c.specs.{declared.report.Report.Report, Agents.BeginsAgent, Codes.end_code}
+use Rattle.fwu_c.specs.{declared.report.Report.Report, Agents.BeginsAgent, Reports.end_code}
 use Rattle.fwu_c.specs.Handed.{HandsOver, IsJustMade, HasFlashSize, IsDeviceEnd, TellsSteps, boot_reach, is_idle_number}
 use Rattle.fwu_c.specs.Sendings.{InstallsBy, SendOutcome, outcome_code}
 use Rattle.fwu_c.specs.Updates.{BootsUp, IsOnTrial, LiesInUpdate, SparesInUse, TouchesUpdate, UpdateEnds, UpdatesBy}
@@ -24,7 +24,7 @@ use Rattle.agent_machine.specs.{Moment.Moment, Beside.IsSparedByAll, Beside.Spar
 use Rattle.fwu_formats.proofs.Read.{layout-fits}
 use Rattle.fwu_c.proofs.{Calls.setting_of, Telling.keeps_fault, Telling.lie_further, Telling.starts_none, Telling.told_handed}
 use Rattle.fwu_c.proofs.Places.{behind-front, behind-untouched, between-unwritten, either-place, has-blocks, in-use-unwritten, marks-spared, update-bank, update-touches}
-use Rattle.fwu_c.proofs.Booting.{beside_marks_by, boot_counts, code_few, counted_from_none, end_same, guard_kept, lies_over, none_taken, over}
+use Rattle.fwu_c.proofs.Booting.{beside_marks_by, boot_counts, code_few, counted_from_none, end_same, guard_kept, lies_over, none_taken, over, unwritten}
 
 -- ---- trials
 
@@ -46,10 +46,6 @@ no_layout_no_trial image f is trial = let shown = rw is at trial.1 in absurd (cc
 pub no_metadata_no_trial : (image : List ℕ) (L : Layout) → layout_seen image ≡ Ok L → deciding L image ≡ None → IsOnTrial image → ⊥
 unfolding seen
 no_metadata_no_trial image L layout none trial = let shown = rw (layout, none) at trial.1 in absurd (cc)
-
-pub start_now : (image file : List ℕ) (t : Told) → t ≡ start_with image file → t.now ≡ image
-unfolding fresh
-start_now image file t made = ap (λ (x : Told). x.now) made
 
 -- ---- numbers
 
@@ -126,7 +122,7 @@ module _ (file : List ℕ) (request : ℕ) (first d : StepFlash) (made : IsJustM
     places = places;
     spared = spared;
     beside_marks = beside_marks_by d _ hands.lie
-        (still ∙ boot-spares e (writes_of first) (writes_of mid) boots.touches_fewer ∙ made.unwritten counter_block);
+        (still ∙ boot-spares e (writes_of first) (writes_of mid) boots.touches_fewer ∙ unwritten made counter_block);
     touches_fewer = fewer;
     reports = end_same e old told r hands.same boots.reports;
   }
@@ -139,10 +135,10 @@ module _ (file : List ℕ) (request : ℕ) (first d : StepFlash) (made : IsJustM
       updates_by e given d boots refl
       (none_ends file request e number (told_of d) (is ∙ boots.number_is) (omega (arith, some, is)))
       (none_lie e _ (omega (arith, some, boots.number_is))
-      (hands.lie.places 1 7 (counted_from_none block_bytes boot_reach made.unwritten boots.touches)))
+      (hands.lie.places 1 7 (counted_from_none block_bytes boot_reach (unwritten made) boots.touches)))
       (none_spared e _ (omega (arith, some, boots.number_is))) refl
       (none_behind e _ (omega (arith, some, boots.number_is)) (boot_counts e first d number (take r.steps steps) (is ∙ boots.number_is)
-      made.unwritten boots.touches_fewer counted (λ none. none_taken r.steps steps (idle none))))
+      (unwritten made) boots.touches_fewer counted (λ none. none_taken r.steps steps (idle none))))
 
   module _ (mid : StepFlash) (b : Started) (n : Numbers) (boots : BootsUp (booted b n) 0 first mid old told)
       (sent : SendingSpares b mid d) (outcome : SendOutcome) (installs : InstallsBy file request b outcome (told_of mid) (told_of d)) where
@@ -161,7 +157,7 @@ module _ (file : List ℕ) (request : ℕ) (first d : StepFlash) (made : IsJustM
     -- where the steps behind a boot of a bank lie: behind block 0
     pub tried_places : All (LiesWithin block_bytes (length (image_of first))) (take r.steps steps)
     tried_places =
-        let touches = update-touches b.layout b.bank fits first mid d made.unwritten boots.touches sent in
+        let touches = update-touches b.layout b.bank fits first mid d (unwritten made) boots.touches sent in
         let both = lies_over file first d made (guard ∙ guard_kept (told_of first) (told_of mid) (booted b n) boots.ends.by_bytes) in
         let long = ap (λ (i : List ℕ). length i) both.0 in
         lie_further block_bytes (block_bytes * block_count d) (length (image_of first)) _
@@ -174,13 +170,13 @@ module _ (file : List ℕ) (request : ℕ) (first d : StepFlash) (made : IsJustM
         updates_by (booted b n) 0 mid boots guard (outcome, is, installs)
         (either-place b.layout (update-bank b.layout b.bank) _
         (hands.lie.places 1 (start b.layout (update-bank b.layout b.bank + 1) 0)
-        (behind-untouched b.layout b.bank fits first mid d made.unwritten boots.touches sent))
+        (behind-untouched b.layout b.bank fits first mid d (unwritten made) boots.touches sent))
         (hands.lie.beside 7 (start b.layout (update-bank b.layout b.bank) 0) (behind-front b.layout (update-bank b.layout b.bank))
-        (between-unwritten b.layout b.bank fits first mid d made.unwritten boots.touches sent)))
+        (between-unwritten b.layout b.bank fits first mid d (unwritten made) boots.touches sent)))
         (hands.lie.beside (start b.layout b.bank 0) (start b.layout (b.bank + 1) 0) (has-blocks b.layout b.bank fits)
-        (in-use-unwritten b.layout b.bank fits first mid d made.unwritten boots.touches sent))
+        (in-use-unwritten b.layout b.bank fits first mid d (unwritten made) boots.touches sent))
         (sent counter_block (marks-spared b.layout b.bank fits)) (
           writes_of mid,
-          subst (λ (w : ℕ → ℕ). TouchesBoot (booted b n) w (writes_of mid)) (λ i k. made.unwritten k i) boots.touches_fewer,
+          subst (λ (w : ℕ → ℕ). TouchesBoot (booted b n) w (writes_of mid)) (λ i k. unwritten made k i) boots.touches_fewer,
           λ k spared. ap (λ (ss : List Step). writes_in ss k) counted ∙ sent k spared,
         )

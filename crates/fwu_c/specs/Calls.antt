@@ -1,5 +1,5 @@
 -- What C is told of one call of the agent, in the session behind a boot of a bank.
-use Rattle.std.specs.Prelude.{◌≡◌, ◌≢◌, ℕ, ◌++◌, List, [], All, take, Option, None, Some, Result, Ok, Err, IsTrue, ⊤}
+use Rattle.std.specs.Prelude.{◌≡◌, ◌≢◌, ℕ, ◌++◌, List, [], All, take, Option, None, Some, Result, Ok, Err, IsTrue, option_map, unwrap_or, ⊤}
 use Rattle.base_core.specs.Block.{block_bytes}
 use Rattle.flash_core.specs.{Told.Told, Touches.TouchesOnly, May.Guards}
 use Rattle.flash_core.specs.declared.flash.FlashStop.TheVariants as flash_stop
@@ -18,7 +18,7 @@ use Rattle.agent_machine.specs.Beside.{IsSparedByAll, KeepsWhere}
 use Rattle.agent_machine.specs.declared.stop.Stop.TheVariants as stop
 use Rattle.step_flash.specs.{declared.step.Step.Step, declared.flash.StepFlash.StepFlash, Flash.told_of, Flash.writes_of}
 use Rattle.step_flash.specs.{Guard.start_with, Writes.LiesWithin}
-use Rattle.fwu_c.specs.{Agents.MovesByAnswer, Codes.fault_code, declared.calling.AgentCall.AgentCall, declared.report.Report.Report}
+use Rattle.fwu_c.specs.{Agents.MovesByAnswer, Reports.fault_code, declared.calling.AgentCall.AgentCall, declared.report.Report.Report}
 use Rattle.fwu_c.specs.{Handed.IsMadeBy, Handed.KeepsReport, Handed.call_reach, Reports.ReportsStart, Reports.SameBut}
 use Rattle.fwu_c.specs.declared.calling.AgentCall.TheVariants.{Accept, Previous}
 
@@ -90,14 +90,11 @@ IsAccepted (call.Accepts guid) b =
     (image : ℕ) × (find_image b.layout.rows guid ≡ Some image) × IsTrue (bit_at b.meta.meta b.meta.meta.active image)
 IsAccepted other b = ⊥
 
--- the metadata in which an image of the active bank is accepted; where there is none it is as it was
-abbrev pub meta_accepted : MetaRead → Option ℕ → MetaRead
-meta_accepted r None = r
-meta_accepted r (Some image) = record r { meta = meta_after r.meta (move.Accept image) }
-
--- what the call makes of the metadata that the boot told
+-- what the call makes of the metadata that the boot told; where there is no such image it is as it was
 abbrev pub meta_made : Call → Started → MetaRead
-meta_made (call.Accepts guid) b = meta_accepted b.meta (find_image b.layout.rows guid)
+meta_made (call.Accepts guid) b =
+    unwrap_or (option_map (λ image. record b.meta { meta = meta_after b.meta.meta (move.Accept image) })
+    (find_image b.layout.rows guid)) b.meta
 meta_made call.Previous b = record b.meta { meta = meta_after b.meta.meta move.Back }
 meta_made other b = b.meta
 

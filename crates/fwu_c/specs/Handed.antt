@@ -1,11 +1,11 @@
 -- The steps of a device, as they were handed over.
-use Rattle.std.specs.Prelude.{◌≡◌, ◌≢◌, ◌↔◌, ◌⊎◌, ◌≤◌, ◌*◌, ◌==◌, ◌||◌, true, All, Bool, ℕ, List, IsTrue, drop, length, take}
+use Rattle.std.specs.Prelude.{◌≡◌, ◌≢◌, ◌↔◌, ◌⊎◌, ◌≤◌, ◌*◌, ◌==◌, ◌||◌, true, All, Bool, ℕ, List, [], None, IsTrue, drop, length, take}
 use Rattle.base_core.specs.Block.{block_bytes, fewest_blocks, most_blocks}
 use Rattle.flash_core.specs.Told.{Told}
 use Rattle.step_flash.specs.{declared.step.Step.Step, declared.flash.StepFlash.StepFlash, declared.flash.Unmade.Unmade}
-use Rattle.step_flash.specs.{Device.LieAsCounted, Guard.start_with, Stopped.under_as, Writes.LiesWithin}
+use Rattle.step_flash.specs.{Device.LieAsCounted, Guard.start_with, Steps.under_as, Writes.LiesWithin}
 use Rattle.step_flash.specs.declared.flash.Unmade.TheVariants.{NoFlash, NoMemory}
-use Rattle.step_flash.specs.Flash.{device_in, image_of, is_on, package_of, told_of, writes_of}
+use Rattle.step_flash.specs.Flash.{device_in, image_of, is_on, package_of, steps_of, told_of}
 use Rattle.step_flash.specs.Steps.{AreDoable, IsInsideWith, room_bytes, run_with}
 use Rattle.fwu_c.specs.{Reports.SameBut, declared.report.Report.Report}
 
@@ -42,11 +42,12 @@ pub record HandsOver (d : StepFlash) (told r : Report) (steps : List Step) (room
 abbrev pub is_idle_number : ℕ → Bool
 is_idle_number number = number == 1 || number == 2 || number == 21
 
--- A device was just made over its image, with this package: it is on, and has noted nothing.
+-- A device was just made over its image, with this package: it is on, no loss is armed, and it has noted nothing.
 pub record IsJustMade (file : List ℕ) (d : StepFlash) : Type 0 where
   pub on : is_on d ≡ true
+  pub unarmed : (device_in d).arming ≡ None
   pub fresh : told_of d ≡ start_with (image_of d) file
-  pub unwritten : (b : ℕ) → writes_of d b ≡ 0
+  pub steps : steps_of d ≡ []
 
 -- there is no device over the image: it is no flash, or memory is wanting
 abbrev pub unmade_code : Unmade → ℕ

@@ -1,11 +1,9 @@
 pub mod Agents
 pub mod Boots
 pub mod Calls
-pub mod Codes
 pub mod Found
 pub mod Handed
 pub mod Reports
 pub mod Sendings
 pub mod Shows
-pub mod Slots
 pub mod Updates

@@ -8,7 +8,7 @@ use Rattle.fwu_model.specs.State.{Numbers}
 use Rattle.image_check.specs.{declared.bank.Verdict.Verdict, Verdict.verdict_on}
 use Rattle.image_check.specs.declared.bank.Verdict.TheVariants.{Good, BadManifest, NotAccepted, BadImage, BelowCounter}
 use Rattle.early_boot.specs.Numbers.{ShowsNumbers}
-use Rattle.fwu_c.specs.{Codes.fault_code, Handed.HasFlashSize, declared.show.BankShown.BankShown}
+use Rattle.fwu_c.specs.{Reports.fault_code, Handed.HasFlashSize, declared.show.BankShown.BankShown}
 use Rattle.fwu_c.specs.declared.show.FlashShown.{FlashShown}
 
 abbrev pub state_code : BankState → ℕ

@@ -8,7 +8,7 @@ use Rattle.early_boot.specs.{Ends.Ended, Ends.booted, EndsBy.BootEnds, EndsBy.To
 use Rattle.agent_machine.specs.Beside.{IsSparedByAll, SparesBlocksWhere}
 use Rattle.step_flash.specs.{declared.step.Step.Step, declared.flash.StepFlash.StepFlash, Flash.told_of, Flash.writes_of}
 use Rattle.step_flash.specs.{Guard.start_with, Writes.LiesBeside, Writes.LiesWithin, Writes.writes_in}
-use Rattle.fwu_c.specs.{Codes.end_code, Handed.IsMadeBy, Handed.KeepsReport, Handed.boot_reach, Reports.ReportsEnd}
+use Rattle.fwu_c.specs.{Reports.end_code, Handed.IsMadeBy, Handed.KeepsReport, Handed.boot_reach, Reports.ReportsEnd}
 use Rattle.fwu_c.specs.{Sendings.SendOutcome, Sendings.InstallsBy, Sendings.outcome_code, declared.report.Report.Report}
 
 -- the image shows an active bank that is on trial

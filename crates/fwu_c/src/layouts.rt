@@ -1,7 +1,7 @@
 //! Layouts (own format).
 ghost use Rattle.std.specs.Prelude.{◌≡◌};
 ghost use Rattle.fwu_formats.specs.Layout.{layout_of};
-ghost use Rattle.fwu_c.specs.Codes.{fault_code, layout_code};
+ghost use Rattle.fwu_c.specs.Reports.{fault_code, layout_code};
 
 use fwu_formats::LayoutFault;
 use meta_layout::Layout;

@@ -2,9 +2,8 @@
 ghost use Rattle.std.specs.Prelude.{◌≡◌};
 ghost use Rattle.early_boot.specs.Ends.{device_of, ended};
 ghost use Rattle.early_boot.specs.Started.{started};
-ghost use Rattle.fwu_c.specs.Codes.{end_code};
 ghost use Rattle.fwu_c.specs.Handed.{KeepsReport};
-ghost use Rattle.fwu_c.specs.Reports.{ReportsEnd, ReportsStart};
+ghost use Rattle.fwu_c.specs.Reports.{ReportsEnd, ReportsStart, end_code};
 
 use crate::layouts::fault_number;
 use early_boot::{BootEnd, Booted};

@@ -1,8 +1,8 @@
 //! Where a bank keeps its images.
 ghost use Rattle.std.specs.Prelude.{◌≡◌, ◌<◌, ◌≤◌, length, IfOk};
 ghost use Rattle.fwu_formats.specs.Layout.{layout_of};
-ghost use Rattle.fwu_c.specs.Codes.{slots_code};
-ghost use Rattle.fwu_c.specs.Slots.{slot_of, TellsSlots};
+ghost use Rattle.fwu_c.specs.Reports.{slots_code};
+ghost use Rattle.fwu_c.specs.Found.{slot_of, TellsSlots};
 
 use crate::layouts::fault_number;
 use base_core::BLOCK_BYTES;

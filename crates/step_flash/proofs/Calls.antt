@@ -1,11 +1,9 @@
 -- What each call does to what a device tells, by what it does to the steps.
-use Rattle.std.proofs.Common.{◌≡◌, inl, inr, ℕ, ◌≤◌, Bool, true, false, List, Option, Some, None, sym, ap, arith, subst, refl}
-use Rattle.std.proofs.lemmas.Bool.{cases_lt}
-use Rattle.std.specs.Option.{ForSome}
-use Rattle.flash_core.specs.{Counts.IsDue, Counts.lowered, declared.flash.Arming.Arming, May.Leaves, May.NoChance}
+use Rattle.std.proofs.Common.{◌≡◌, ℕ, Bool, true, false, List, Option, Some, None, sym, ap, subst, refl}
+use Rattle.flash_core.specs.May.{Leaves, NoChance}
 use Rattle.flash_core.specs.Told.{Told, Operation, fresh, put, halt, settle}
 use Rattle.flash_core.proofs.Calls.{may_now}
-use Rattle.step_flash.specs.{Device.back_on, Guard.start_with, Stopped.under_as}
+use Rattle.step_flash.specs.{Device.back_on, Guard.start_with, Steps.under_as}
 
 module _ (u : Option Operation) (live : Bool) (r : Told) where
   -- an erase or a program was stopped
@@ -57,14 +55,3 @@ settle_noted (Some op) live r next idle is e = absurd (cc)
 pub start_idle : (image file : List ℕ) → under_as None (start_with image file) ≡ start_with image file
 unfolding fresh
 start_idle image file = refl
-
--- an armed loss that was not due lies ahead still, once it is lowered
-pub lowered_ahead : (a : Option Arming) → ForSome a (λ armed. 1 ≤ armed.n) → (IsDue a → ⊥) → ForSome (lowered a) (λ armed. 1 ≤ armed.n)
-lowered_ahead None ahead undue = λ x e. absurd (cc)
-lowered_ahead (Some a) ahead undue = λ x e. elim (cases_lt a.n 2) [
-  | inl low ↦ absurd (undue (omega (arith, low, ahead a refl)))
-  | inr high ↦ omega (arith, high, ap (λ (y : Arming). y.n) (same _ x e))
-]
-  where
-    same : (y z : Arming) → Some y ≡ Some z → y ≡ z
-    same y z e = cc

@@ -9,3 +9,4 @@ mod Noted
 mod Calls
 pub mod Guards
 pub mod Causes
+pub mod Armings

@@ -1,15 +1,17 @@
 -- What a device tells, by its image and its steps.
 use Rattle.std.specs.Prelude.{◌≡◌, ◌⊎◌, if◌then◌else◌, ℕ, ◌+◌, ◌*◌, ◌<◌, ◌≤◌, ◌++◌, ◌∷◌, [], All, Bool, true, false, List, Option, Some, None}
-use Rattle.std.specs.Prelude.{is_none, min, slice_range, length, Result, is_ok, IsErrOf, IsTrue, OnErr, OnOk}
-use Rattle.std.proofs.Common.{refl}
+use Rattle.std.specs.Prelude.{is_none, min, slice_range, length, Result, is_ok, IsErrOf, IsTrue, OnErr, OnOk, not, ◌-◌}
+use Rattle.std.specs.Option.{ForSome}
+use Rattle.std.proofs.Common.{arith, refl}
+use Rattle.std.proofs.lemmas.List.Sums.{count_by-le-length}
 use Rattle.base_core.specs.Block.{block_bytes}
 use Rattle.flash_core.specs.{Told.Told, Told.IsSound, Told.fresh, Told.settle, Told.settled, Told.written, Touches.TouchesOnly}
 use Rattle.flash_core.specs.{May.Leaves, May.NoChance, May.TookEffect, declared.flash.Arming.Arming, declared.flash.Counts.Counts}
 use Rattle.flash_core.specs.{declared.flash.FlashStop.FlashStop, declared.flash.FlashStop.TheVariants.Failed}
 use Rattle.flash_core.specs.Counts.{Fires, Idles, ReachesNone, Rose, Spends, arming_kept, arming_spent, landed_of}
 use Rattle.step_flash.specs.{declared.device.StepDevice.StepDevice, declared.device.StepParts.StepParts, declared.step.Step.Step}
-use Rattle.step_flash.specs.{declared.stopped.Stopped.Stopped, Guard.start_with, Steps.NotesBytes, Steps.run_with}
-use Rattle.step_flash.specs.{Stopped.under_as, Stopped.under_of, Writes.LiesBeside, Writes.LiesWithin, Writes.writes_in}
+use Rattle.step_flash.specs.{declared.stopped.Stopped.Stopped, Guard.start_with, Steps.NotesBytes, Steps.is_barrier, Steps.run_with}
+use Rattle.step_flash.specs.{Steps.under_as, Steps.under_of, Writes.LiesBeside, Writes.LiesWithin, Writes.arming_by, Writes.erases_and_programs, Writes.writes_in}
 
 -- the image with the steps done
 abbrev pub after_steps : StepDevice → Told
@@ -26,6 +28,10 @@ told_of d = under_as (under_of d.stopped) (back_on d.live (after_steps d))
 -- how often each block is erased or programmed by these steps
 abbrev pub writes_of : StepDevice → ℕ → ℕ
 writes_of d = writes_in d.steps.items
+
+-- Where no loss is armed, a far one is told, so that what a call says of an armed loss counts its steps.
+abbrev pub arming_of : StepDevice → Option Arming
+arming_of d = arming_by d.arming d.most d.steps.items
 
 -- it may fail, and loses no power
 abbrev pub counts_of : StepDevice → Counts
@@ -61,27 +67,28 @@ pub record NotesProgram (at : ℕ) (bytes : List ℕ) (result : Result (Unit {0}
 -- ---- what each call promises as the trait has it
 
 -- what is told after a call that may fail, what it leaves of an armed loss, and its power, size and counts
-pub record CallsDevice (told : Told) (armed : Option Arming) (result : Result (Unit {0}) FlashStop) (old new : StepDevice) : Type 0 where
+pub record CallsDevice (told : Told) (armed : Option Arming) (result : Result (Unit {0}) FlashStop)
+    (old new : StepDevice) : Type 0 where
   pub content : IsTrue true → told_of new ≡ told
   pub power : new.on ≡ is_ok result
   pub size : new.blocks ≡ old.blocks
-  pub arming : new.arming ≡ armed
+  pub arming : arming_of new ≡ armed
   pub counts : Spends result (counts_of old) (counts_of new)
 
 pub record ReadsImage (at : ℕ) (was out : List ℕ) (result : Result (Unit {0}) FlashStop) (old new : StepDevice) : Type 0 where
   pub bytes : OnOk result (IsTrue true → out ≡ slice_range (told_of old).now at (at + length was))
-  pub call : CallsDevice (told_of old) (arming_kept result old.arming) result old new
+  pub call : CallsDevice (told_of old) (arming_kept result (arming_of old)) result old new
   pub reached : ReachesNone result (counts_of old) (counts_of new)
 
 -- an erase or a program of these bytes
 pub record Writes (at : ℕ) (bytes : List ℕ) (result : Result (Unit {0}) FlashStop) (old new : StepDevice) : Type 0 where
-  pub call : CallsDevice (written result at bytes (told_of old)) (arming_spent result old.arming) result old new
-  pub reached : Fires result old.arming (counts_of old) (counts_of new)
-  pub landed : 0 ≡ landed_of result old.arming
+  pub call : CallsDevice (written result at bytes (told_of old)) (arming_spent result (arming_of old)) result old new
+  pub reached : Fires result (arming_of old) (counts_of old) (counts_of new)
+  pub landed : 0 ≡ landed_of result (arming_of old)
 
 -- a barrier
 pub record SettlesImage (result : Result (Unit {0}) FlashStop) (old new : StepDevice) : Type 0 where
-  pub call : CallsDevice (settled result (told_of old)) (arming_kept result old.arming) result old new
+  pub call : CallsDevice (settled result (told_of old)) (arming_kept result (arming_of old)) result old new
   pub reached : ReachesNone result (counts_of old) (counts_of new)
   pub writes : writes_of new ≡ writes_of old
 
@@ -90,7 +97,7 @@ pub record ArmsLoss (n k : ℕ) (old new : StepDevice) : Type 0 where
   pub content : IsTrue true → told_of new ≡ told_of old
   pub power : new.on ≡ old.on
   pub size : new.blocks ≡ old.blocks
-  pub arming : new.arming ≡ Some (record { n = n; k = k })
+  pub arming : arming_of new ≡ Some (record { n = n; k = k })
   pub made : (counts_of new).made ≡ min ((counts_of old).made + 1) 18446744073709551615
   pub counts : Idles (counts_of old) (counts_of new)
 
@@ -102,7 +109,7 @@ pub record ComesBackOn (old new : StepDevice) : Type 0 where
   pub effect : IsTrue true → TookEffect (told_of old).under 0 (told_of new).now
   pub power : IsTrue new.on
   pub size : new.blocks ≡ old.blocks
-  pub arming : new.arming ≡ old.arming
+  pub arming : arming_of new ≡ arming_of old
   pub made : (counts_of new).made ≡ (counts_of old).made
   pub counts : Idles (counts_of old) (counts_of new)
 
@@ -114,7 +121,7 @@ pub record StaysLive (result : Result (Unit {0}) FlashStop) (old new : StepDevic
 -- A call failed, and power went. This is told then, and no step was noted.
 pub record Fails (told : Told) (result : Result (Unit {0}) FlashStop) (old new : StepDevice) : Type 0 where
   pub stop : IsErrOf result Failed
-  pub call : CallsDevice told old.arming result old new
+  pub call : CallsDevice told (arming_of old) result old new
   pub kept : KeepsSteps old new
   pub live : new.live ≡ old.live
 
@@ -145,3 +152,14 @@ pub device_sound : (d : StepDevice) → IsSound d.blocks d.on (told_of d)
 device_sound d =
     let sound = sound_back d.blocks d.live (after_steps d) d.sound in
     record { size = sound.size; stable_size = sound.stable_size; kept = sound.kept; idle = λ on. none_under d.stopped (d.idle on) }
+
+ahead_by : (armed : Option Arming) (most : ℕ) (steps : List Step) → length steps ≤ most → ForSome armed (λ a. 1 ≤ a.n)
+    → ForSome (arming_by armed most steps) (λ a. 1 ≤ a.n)
+unfolding erases_and_programs
+ahead_by None most steps few ahead = λ a is.
+    let n : most + 4294967296 - erases_and_programs steps ≡ a.n = cc in
+    omega (arith, n, few, count_by-le-length (λ s. not (is_barrier s)) steps)
+ahead_by (Some armed) most steps few ahead = ahead
+
+pub device_ahead : (d : StepDevice) → ForSome (arming_of d) (λ armed. 1 ≤ armed.n)
+device_ahead d = ahead_by d.arming d.most d.steps.items d.few (λ a is. (d.ahead a is).0)

@@ -1,7 +1,9 @@
--- What a flash tells: what its device does.
-use Rattle.std.specs.Prelude.{ℕ, Bool, List, Option}
+-- What a flash tells: what its device does. And why none is made.
+use Rattle.std.specs.Prelude.{◌≡◌, ◌*◌, ◌≤◌, ℕ, Bool, List, Option}
+use Rattle.base_core.specs.Block.{block_bytes, fewest_blocks, most_blocks}
 use Rattle.flash_core.specs.{Told.Told, declared.flash.Arming.Arming, declared.flash.Counts.Counts}
-use Rattle.step_flash.specs.{declared.step.Step.Step, declared.flash.StepFlash.StepFlash}
+use Rattle.step_flash.specs.{declared.step.Step.Step, declared.flash.StepFlash.StepFlash, declared.flash.Unmade.Unmade}
+use Rattle.step_flash.specs.declared.flash.Unmade.TheVariants.{NoFlash, NoMemory}
 use Rattle.step_flash.specs.declared.device.StepDevice.{StepDevice}
 use Rattle.step_flash.specs.Device as device
 
@@ -30,8 +32,9 @@ most_of d = d.device.value.most
 abbrev pub told_of : StepFlash → Told
 told_of d = device.told_of d.device.value
 
+-- the loss that is armed, and where there is none a far one, so that what a call says of an armed loss counts its steps
 abbrev pub arming_of : StepFlash → Option Arming
-arming_of d = d.device.value.arming
+arming_of d = device.arming_of d.device.value
 
 -- it may fail, and loses no power
 abbrev pub counts_of : StepFlash → Counts
@@ -52,3 +55,8 @@ steps_of d = d.device.value.steps.items
 -- the bytes of the programs that are no copies
 abbrev pub room_of : StepFlash → List ℕ
 room_of d = d.device.value.room.items
+
+-- An image of so many bytes has not those of 8 to 65,536 blocks; or it has, and memory is said to be wanting.
+abbrev pub IsUnmade : ℕ → Unmade → Type 0
+IsUnmade n NoFlash = (b : ℕ) → fewest_blocks ≤ b → b ≤ most_blocks → n ≡ block_bytes * b → ⊥
+IsUnmade n NoMemory = (b : ℕ) × (fewest_blocks ≤ b) × (b ≤ most_blocks) × (n ≡ block_bytes * b)

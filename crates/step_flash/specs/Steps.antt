@@ -1,11 +1,11 @@
--- What steps do to a flash.
+-- What steps do to a flash, and the operation that was stopped.
 use Rattle.std.specs.Prelude.{◌≡◌, ◌⊎◌, ⊤, ℕ, Bool, ◌+◌, ◌%◌, ◌<◌, ◌≤◌, ◌==◌, if◌then◌else◌}
-use Rattle.std.specs.Prelude.{List, [], ◌∷◌, ◌++◌, fold, slice_range, length}
+use Rattle.std.specs.Prelude.{List, [], ◌∷◌, ◌++◌, fold, slice_range, length, Option, Some, None}
 use Rattle.std.specs.Coded.{×_prop, Unit-prop}
 use denote.Struct.Props as logic
 use Rattle.base_core.specs.Block.{blank, block_bytes, granule_bytes}
-use Rattle.flash_core.specs.Told.{Told, put, settle}
-use Rattle.step_flash.specs.declared.step.Step.{Step}
+use Rattle.flash_core.specs.Told.{Told, Operation, put, settle}
+use Rattle.step_flash.specs.{declared.step.Step.Step, declared.stopped.Stopped.Stopped}
 
 -- Kind 1 is an erase, kind 2 a program, kind 3 a barrier, kind 4 a copy: a program whose bytes stand in the package.
 abbrev pub is_barrier : Step → Bool
@@ -39,6 +39,14 @@ run_step file room t s = if is_barrier s then settle t else put s.at (step_bytes
 -- what a flash tells after the steps, in their order
 unfoldable pub run_with : List ℕ → List ℕ → Told → List Step → Told
 run_with file room t steps = fold (run_step file room) t steps
+
+abbrev pub under_of : Option Stopped → Option Operation
+under_of None = None
+under_of (Some s) = Some (record { at = s.at; bytes = s.bytes.bytes })
+
+-- with this operation under way, or none
+abbrev pub under_as : Option Operation → Told → Told
+under_as under t = record t { under = under }
 
 -- how many bytes of the room the programs have that are no copies
 abbrev pub bytes_in_room : Step → ℕ

@@ -6,6 +6,7 @@ ghost use Rattle.flash_core.specs.Told.{Told, IsSound};
 ghost use Rattle.flash_core.specs.Counts.{lowered};
 ghost use Rattle.step_flash.specs.Guard.{start_with};
 ghost use Rattle.step_flash.specs.Steps.{AreDoable, IsInsideWith, one_proof, room_bytes, run_step, run_with, source_of};
+ghost use Rattle.step_flash.specs.Writes.{IsArmed};
 
 use crate::lent_file::LentFile;
 use crate::overlay::overlay;
@@ -42,7 +43,7 @@ pub(crate) struct StepDevice<'a> {
     ghost few: { length steps.items ≤ most },
     ghost theirs: { length room.items ≡ room_bytes steps.items },
     ghost idle: { IsTrue on → IsTrue (is_none stopped) },
-    ghost ahead: { ForSome arming (λ armed. 1 ≤ armed.n) },
+    ghost ahead: { ForSome arming IsArmed },
     ghost sound: { IsSound blocks true
         (run_with file.bytes.now room.items (start_with image.now file.bytes.now) steps.items) },
 }

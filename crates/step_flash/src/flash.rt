@@ -1,12 +1,12 @@
 //! The flash, as its callers hold it.
 ghost use Rattle.std.specs.Prelude.{◌≡◌, ℕ, ◌<◌, ◌≤◌, ◌+◌, ◌*◌, ◌%◌, None, true, [], All, IfErr, IfOk, IsFalse, IsTrue, is_ok, length, slice_range};
 ghost use Rattle.base_core.specs.Block.{blank, block_bytes, granule_bytes};
-ghost use Rattle.step_flash.specs.Device.{ArmsLoss, IsGivenOut, KeepsSteps, LieAsCounted, NotedBy, NotesProgram, NotesStep, ComesBackOn, ReadsImage, SettlesImage, StaysLive, Writes, device_sound};
+ghost use Rattle.step_flash.specs.Device.{ArmsLoss, IsGivenOut, KeepsSteps, LieAsCounted, NotedBy, NotesProgram, NotesStep, ComesBackOn, ReadsImage, SettlesImage, StaysLive, Writes, device_ahead, device_sound};
 ghost use Rattle.step_flash.specs.Flash.{device_in, steps_of, arming_of, block_count, counts_of, image_of, is_live, is_on};
 ghost use Rattle.step_flash.specs.Flash.{most_of, package_of, told_of, writes_of};
 ghost use Rattle.step_flash.specs.Guard.{start_with};
 ghost use Rattle.step_flash.specs.Steps.{AreDoable, IsInsideWith, barrier_step, erase_step, room_bytes};
-ghost use Rattle.step_flash.specs.Unmade.{IsUnmade};
+ghost use Rattle.step_flash.specs.Flash.{IsUnmade};
 
 use crate::device::{StepDevice, StepParts};
 use flash_core::{Flash, FlashStop};
@@ -18,6 +18,9 @@ use std::alloc::Global;
 /// An erase, a program or a barrier fails where there is no room for one more step, or no memory for it. An erase or a program
 /// fails too where an armed loss of power is due, since a list of steps has no loss. Power goes then. Once it is on again, each
 /// read, erase, program and barrier fails.
+///
+/// Where no loss is armed it tells one that lies behind all steps, and that each erase and program brings nearer. So what a call
+/// promises of an armed loss says how many of them it makes.
 ///
 /// It stands in memory of its own, so that handing it on copies no more than a pointer.
 #[derive(Drop)]
@@ -41,7 +44,7 @@ impl<'a> StepFlash<'a> {
         ensures steps { IfOk result (λ d. steps_of d ≡ []) }
         ensures unwritten { IfOk result (λ d. (b : ℕ) → writes_of d b ≡ 0) }
         ensures power { IfOk result (λ d. is_on d ≡ true) }
-        ensures unarmed { IfOk result (λ d. arming_of d ≡ None) }
+        ensures unarmed { IfOk result (λ d. (device_in d).arming ≡ None) }
         ensures image { IfOk result (λ d. image_of d ≡ image.now) }
         ensures live { IfOk result (λ d. is_live d ≡ true) }
         ensures most { IfOk result (λ d. most_of d ≡ most) }
@@ -66,7 +69,7 @@ impl<'a> StepFlash<'a> {
         ensures steps { IfOk result (λ d. steps_of d ≡ []) }
         ensures unwritten { IfOk result (λ d. (b : ℕ) → writes_of d b ≡ 0) }
         ensures power { IfOk result (λ d. is_on d ≡ true) }
-        ensures unarmed { IfOk result (λ d. arming_of d ≡ None) }
+        ensures unarmed { IfOk result (λ d. (device_in d).arming ≡ None) }
         ensures image { IfOk result (λ d. image_of d ≡ image.now) }
         ensures file { IfOk result (λ d. package_of d ≡ file.now) }
         ensures live { IfOk result (λ d. is_live d ≡ true) }
@@ -131,7 +134,7 @@ impl<'a> Flash for StepFlash<'a> {
 
     ghost sound = { λ d _. device_sound (device_in d) };
 
-    ghost ahead = { λ d. (device_in d).ahead };
+    ghost ahead = { λ d. device_ahead (device_in d) };
 
     fn blocks(&self) -> u32 {
         self.device.blocks()

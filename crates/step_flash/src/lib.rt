@@ -15,5 +15,8 @@ mod tests;
 
 pub use device::StepParts;
 pub use flash::{StepFlash, Unmade};
-pub use laws::{a_guard_tells_its_image, no_block_behind_the_last_is_counted, no_power_is_lost};
+pub use laws::{
+    a_guard_tells_its_image, an_arming_tells_its_steps, no_block_behind_the_last_is_counted,
+    no_power_is_lost,
+};
 pub use step::{BARRIER, COPY, ERASE, PROGRAM, Step};

@@ -1,6 +1,6 @@
 //! The operation that was stopped.
 ghost use Rattle.std.specs.Prelude.{◌≡◌, Some};
-ghost use Rattle.step_flash.specs.Stopped.{under_of};
+ghost use Rattle.step_flash.specs.Steps.{under_of};
 
 use crate::ghost_bytes::GhostBytes;
 

@@ -29,6 +29,6 @@ returns-clause-boots c = λ low.
     let known : c.hand_over.result ≡ 7 → ⊥ = λ seven. omega (arith, low, seven) in
     boots_by c.args.flash (device_of c.boot_in-end.result) (ended c.boot_in-end.result) c.hand_over.result _ _ _ _ _
     c.requires.new (boots.ends refl) (rw c.into_flash.ensures at (c.hand_over.ensures.hands known)) boots.touches
-    boots.touches_fewer (given _ _ c.hand_over.ensures.number known ∙ c.report_end-number.ensures.number)
+    boots.touches_fewer (boots.once refl) (given _ _ c.hand_over.ensures.number known ∙ c.report_end-number.ensures.number)
     c.report_end-number.ensures.reports
     (λ other. rw c.into_flash.ensures at ((c.hand_over.ensures.given known other).0)) (λ idle. (c.hand_over.ensures.idle idle).0)

@@ -1,6 +1,6 @@
 use Rattle.std.proofs.Common.{arith, refl}
 use Rattle.early_boot.specs.Numbers.{numbers}
-use Rattle.fwu_c.proofs.{Showing.banks_are, Showing.inside, Updating.start_now}
+use Rattle.fwu_c.proofs.{Showing.banks_are, Showing.inside, Booting.start_now}
 use Rattle.fwu_c.proofs.show.find_bank.Goals as goal
 
 pub check-requires-clause-fits : goal.check-requires-clause-fits

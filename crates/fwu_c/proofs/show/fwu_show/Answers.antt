@@ -1,6 +1,6 @@
 use Rattle.std.proofs.Common.{◌∙◌, ap, refl, arith}
-use Rattle.fwu_c.specs.Codes.{fault_code}
-use Rattle.fwu_c.proofs.{Booting.has_flash_size, Showing.no_six, Showing.tells_nothing, Telling.unmade_by, Updating.start_now}
+use Rattle.fwu_c.specs.Reports.{fault_code}
+use Rattle.fwu_c.proofs.{Booting.has_flash_size, Showing.no_six, Showing.tells_nothing, Telling.unmade_by, Booting.start_now}
 use Rattle.fwu_c.proofs.show.fwu_show.Goals as goal
 
 pub returns-in-Err-clause-tells : goal.returns-in-Err-clause-tells

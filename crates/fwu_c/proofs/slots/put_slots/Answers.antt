@@ -1,7 +1,7 @@
 use Rattle.std.proofs.Common.{◌≡◌, ◌∙◌, ◌<◌, ◌≤◌, ◌+◌, List, ap, drop, length, take, sym, arith}
 use Rattle.std.proofs.lemmas.List.{drop-drop, drop-set-lt, length-set, take_more_set}
 use Rattle.meta_layout.proofs.Places.{pushed}
-use Rattle.fwu_c.specs.{Slots.slot_of, declared.slots.Slot.Slot}
+use Rattle.fwu_c.specs.{Found.slot_of, declared.slots.Slot.Slot}
 use Rattle.fwu_c.proofs.slots.put_slots.Goals as goal
 
 pub loop-image-preserved : goal.loop-image-preserved

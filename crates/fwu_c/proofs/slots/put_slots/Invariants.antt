@@ -1,6 +1,6 @@
 use Rattle.std.proofs.Common.{◌≡◌, drop, length, take}
 use Rattle.base_core.specs.Bytes.{listed}
-use Rattle.fwu_c.specs.Slots.{slot_of}
+use Rattle.fwu_c.specs.Found.{slot_of}
 use Rattle.fwu_c.proofs.slots.put_slots.Given as goal
 
 -- the images so far have their slots, and those behind them stay

@@ -1,7 +1,7 @@
 use Rattle.std.proofs.Common.{◌≡◌, ◌≤◌, ◌∙◌, refl, sym, arith}
 use Rattle.early_boot.specs.{Ends.device_of, Ends.ended, Numbers.numbers}
 use Rattle.early_boot.specs.{declared.booted.Booted.Booted, declared.numbers.Numbers.Numbers, declared.ends.BootEnd.BootEnd}
-use Rattle.fwu_c.specs.Codes.{end_code}
+use Rattle.fwu_c.specs.Reports.{end_code}
 use Rattle.fwu_c.proofs.{Booting.boot_end_is, Telling.keeps_started}
 use Rattle.flash_core.specs.declared.flash.Flash.{Ghosts}
 use Rattle.early_boot.specs.declared.ends.BootEnd.TheVariants as boot_end

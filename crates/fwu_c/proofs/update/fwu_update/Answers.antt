@@ -3,7 +3,7 @@ use Rattle.fwu_c.proofs.Telling.{told_no_room, told_unmade}
 use Rattle.fwu_c.proofs.update.fwu_update.Goals as goal
 
 pub shows_trial-requires-clause-new : goal.shows_trial-requires-clause-new
-shows_trial-requires-clause-new c = let ok = c.in-Ok.ensures in made_new _ _ _ ok.content ok.power ok.image ok.unwritten
+shows_trial-requires-clause-new c = let ok = c.in-Ok.ensures in made_new _ _ _ ok.content ok.power ok.image ok.steps ok.unarmed
 
 pub returns-in-Err-clause-tells : goal.returns-in-Err-clause-tells
 returns-in-Err-clause-tells c = told_unmade _ c.in-Err.why _ _ _ _ c.in-Err.ensures.unmade c.unmade_number.ensures

@@ -1,7 +1,8 @@
 use Rattle.std.proofs.Common.{refl, sym, ◌∙◌}
 use Rattle.early_boot.specs.Numbers.{numbers}
 use Rattle.step_flash.specs.Flash.{image_of}
-use Rattle.fwu_c.proofs.Updating.{no_layout_no_trial, no_metadata_no_trial, no_trial_by, start_now, trial_by}
+use Rattle.fwu_c.proofs.Booting.{start_now}
+use Rattle.fwu_c.proofs.Updating.{no_layout_no_trial, no_metadata_no_trial, no_trial_by, trial_by}
 use Rattle.fwu_c.proofs.update.shows_trial.Goals as goal
 
 pub returns-in-Ok-clause-trial : goal.returns-in-Ok-clause-trial

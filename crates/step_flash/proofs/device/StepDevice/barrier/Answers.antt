@@ -1,8 +1,8 @@
 use Rattle.std.proofs.Common.{inl, inr, sym, subst, ap, refl, rules, ◌∙◌, List}
 use Rattle.std.proofs.lemmas.Bool.{cases_Bool}
-use Rattle.step_flash.specs.{Guard.start_with, Steps.barrier_step, Steps.run_with, Stopped.under_of, declared.step.Step.Step}
+use Rattle.step_flash.specs.{Guard.start_with, Steps.barrier_step, Steps.run_with, Steps.under_of, declared.step.Step.Step}
 use Rattle.step_flash.specs.Device.{after_steps, none_under}
-use Rattle.step_flash.proofs.{Places.barrier_meets_none, Places.step_touches, Calls.settle_noted}
+use Rattle.step_flash.proofs.{Armings.arming_settled, Places.barrier_meets_none, Places.step_touches, Calls.settle_noted}
 use Rattle.step_flash.proofs.Noted.{Fits, barrier_fits, run_push}
 use Rattle.step_flash.proofs.device.StepDevice.barrier.Goals as goal
 
@@ -28,7 +28,7 @@ returns-clause-settles c =
             (ap (λ (x : List Step). run_with s.file.bytes.now s.room.items t x) (c.note_barrier.ensures.noted c.if-not-note_barrier.false) ∙ run_push s.file.bytes.now s.room.items t s.steps.items barrier_step);
         power = search rules;
         size = refl;
-        arming = refl;
+        arming = arming_settled s.arming s.most s.steps.items _ (c.note_barrier.ensures.noted c.if-not-note_barrier.false);
         counts = search rules;
       };
       reached = search rules;

@@ -1,9 +1,10 @@
 use Rattle.std.proofs.Common.{arith, rules, sym, subst, ap, refl, ◌≡◌, ◌∙◌, ◌*◌, ◌%◌, ◌+◌, ◌≤◌, List}
 use Rattle.std.specs.Option.{ForSome}
 use Rattle.base_core.specs.Block.{blank, block_bytes}
-use Rattle.step_flash.specs.{Guard.start_with, Stopped.under_of, Steps.erase_step, Steps.run_with, declared.step.Step.Step}
+use Rattle.step_flash.specs.{Guard.start_with, Steps.under_of, Steps.erase_step, Steps.run_with, declared.step.Step.Step}
 use Rattle.step_flash.specs.Device.{after_steps, none_under}
-use Rattle.step_flash.proofs.{Calls.lowered_ahead, Calls.put_noted, Places.step_touches}
+use Rattle.step_flash.specs.Writes.{IsArmed}
+use Rattle.step_flash.proofs.{Armings.arming_noted, Armings.lowered_ahead, Armings.undue_by, Calls.put_noted, Places.step_touches}
 use Rattle.step_flash.proofs.Noted.{Fits, erase_fits, run_push}
 use Rattle.step_flash.proofs.device.StepDevice.erase.Goals as goal
 
@@ -25,7 +26,7 @@ invariant_of-self-2 c =
       few = c.note_erase.ensures.few s.few;
       theirs = f.theirs;
       idle = s.idle;
-      ahead = subst (λ a. ForSome a (λ armed. 1 ≤ armed.n)) (sym c.lowered-self.ensures) (lowered_ahead s.arming s.ahead (c.is_ready.ensures.undue c.if-not-is_ready.false));
+      ahead = subst (λ a. ForSome a IsArmed) (sym c.lowered-self.ensures) (lowered_ahead s.arming s.ahead (c.is_ready.ensures.undue c.if-not-is_ready.false));
       sound = f.sound;
     }
 
@@ -40,10 +41,15 @@ returns-clause-writes c =
             (ap (λ (x : List Step). run_with s.file.bytes.now s.room.items t x) (c.note_erase.ensures.noted c.if-not-note_erase.false) ∙ run_push s.file.bytes.now s.room.items t s.steps.items (erase_step at));
         power = search rules;
         size = refl;
-        arming = c.lowered-self.ensures;
+        arming = arming_noted s.arming _ s.most s.steps.items _ (erase_step at) c.lowered-self.ensures (c.note_erase.ensures.noted c.if-not-note_erase.false) refl;
         counts = search rules;
       };
-      reached = search rules;
+      reached = record {
+        not_done = λ due. undue_by s.arming s.most s.steps.items s.few (c.is_ready.ensures.undue c.if-not-is_ready.false) due;
+        counted = λ due lost. absurd (cc);
+        only = λ _. refl;
+        lost = λ _ lost. absurd (cc);
+      };
       landed = refl;
     }
 

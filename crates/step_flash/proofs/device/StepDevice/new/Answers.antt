@@ -1,7 +1,7 @@
 use Rattle.std.proofs.Common.{arith, rules, ap, sym, subst, ◌*◌, ◌∙◌, ◌≡◌, List, ℕ, length, true, None}
 use Rattle.base_core.specs.Block.{block_bytes}
 use Rattle.flash_core.specs.Told.{Told, IsSound}
-use Rattle.step_flash.specs.{Guard.guard_with, Guard.start_with, Stopped.under_as, Writes.writes_in, declared.step.Step.Step}
+use Rattle.step_flash.specs.{Guard.guard_with, Guard.start_with, Steps.under_as, Writes.writes_in, declared.step.Step.Step}
 use Rattle.step_flash.specs.Steps.{AreDoable, room_bytes, run_with}
 use Rattle.step_flash.proofs.{Calls.start_idle, ReadBack.run_none, Places.none_met, Room.no_room_bytes, Sounds.sound_fresh}
 use Rattle.step_flash.proofs.device.StepDevice.new.Goals as goal

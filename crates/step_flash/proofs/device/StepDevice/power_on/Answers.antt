@@ -1,5 +1,5 @@
 use Rattle.std.proofs.Common.{inr, refl, rules}
-use Rattle.step_flash.specs.{Device.after_steps, Stopped.under_of}
+use Rattle.step_flash.specs.{Device.after_steps, Steps.under_of}
 use Rattle.step_flash.proofs.Calls.{fresh_back, leaves_back, no_chance_back}
 use Rattle.step_flash.proofs.device.StepDevice.power_on.Goals as goal
 

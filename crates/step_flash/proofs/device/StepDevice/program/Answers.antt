@@ -1,8 +1,9 @@
 use Rattle.std.proofs.Common.{rules, ◌≡◌, ◌∙◌, ap, sym, subst, refl, ◌+◌, ◌≤◌, ℕ, Bool, List, length, slice_range, true}
 use Rattle.std.specs.Option.{ForSome}
-use Rattle.step_flash.specs.{Guard.start_with, Stopped.under_of, Steps.TakesProgram, Steps.run_with}
+use Rattle.step_flash.specs.{Guard.start_with, Steps.under_of, Steps.TakesProgram, Steps.run_with}
 use Rattle.step_flash.specs.Device.{after_steps, back_on, none_under}
-use Rattle.step_flash.proofs.{Calls.lowered_ahead, Calls.put_noted, Places.program_touches}
+use Rattle.step_flash.specs.Writes.{IsArmed}
+use Rattle.step_flash.proofs.{Armings.arming_programmed, Armings.lowered_ahead, Armings.undue_by, Calls.put_noted, Places.program_touches}
 use Rattle.step_flash.proofs.Noted.{Fits, program_fits, program_run}
 use Rattle.step_flash.proofs.device.StepDevice.program.Goals as goal
 
@@ -30,7 +31,7 @@ invariant_of-self-2 c =
       few = c.note_program.ensures.few s.few;
       theirs = f.theirs;
       idle = s.idle;
-      ahead = subst (λ a. ForSome a (λ armed. 1 ≤ armed.n)) (sym c.lowered-self.ensures) (lowered_ahead s.arming s.ahead (c.is_ready.ensures.undue c.if-not-is_ready.false));
+      ahead = subst (λ a. ForSome a IsArmed) (sym c.lowered-self.ensures) (lowered_ahead s.arming s.ahead (c.is_ready.ensures.undue c.if-not-is_ready.false));
       sound = f.sound;
     }
 
@@ -47,10 +48,15 @@ returns-clause-writes c =
             (record { inside = s.inside; doable = s.doable; theirs = s.theirs; sound = s.sound }) (c.note_program.ensures.noted c.if-not-note_program.false));
         power = search rules;
         size = refl;
-        arming = c.lowered-self.ensures;
+        arming = arming_programmed _ c.args.at c.args.bytes.now s.arming _ s.most s.steps.items _ _ _ c.lowered-self.ensures (c.note_program.ensures.noted c.if-not-note_program.false);
         counts = search rules;
       };
-      reached = search rules;
+      reached = record {
+        not_done = λ due. undue_by s.arming s.most s.steps.items s.few (c.is_ready.ensures.undue c.if-not-is_ready.false) due;
+        counted = λ due lost. absurd (cc);
+        only = λ _. refl;
+        lost = λ _ lost. absurd (cc);
+      };
       landed = refl;
     }
 

@@ -1,5 +1,5 @@
 use Rattle.std.proofs.Common.{◌∙◌}
-use Rattle.step_flash.specs.{Device.after_steps, Stopped.under_of}
+use Rattle.step_flash.specs.{Device.after_steps, Steps.under_of}
 use Rattle.step_flash.proofs.Calls.{halted}
 use Rattle.step_flash.proofs.device.StepDevice.stop.Goals as goal
 
