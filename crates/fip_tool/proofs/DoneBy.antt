@@ -1,23 +1,23 @@
 -- What is done for what the words ask for, from what a command did.
-use Rattle.std.proofs.Common.{◌≡◌, ◌≤◌, ℕ, List, Some, Result, Err, ap, arith, refl, subst, sym, ◌∙◌, inl, inr, [], Option, None}
-use Rattle.std.specs.Prelude.{IfErr, IsTrue}
+use Rattle.std.proofs.Common.{◌≡◌, ◌≢◌, ◌≤◌, ℕ, List, Some, Result, Err, ap, arith, refl, subst, sym, ◌∙◌, inl, inr, [], Option, None}
+use Rattle.std.specs.Prelude.{IfErr, IfOk, IsTrue}
 use Rattle.base_core.specs.Counts.{Rose}
 use Rattle.fip_words.specs.Order.{FipAsked, info_of_source}
-use Rattle.host_io.specs.{Access.Access, Contents.Directory, declared.writes.Writes.Writes}
+use Rattle.host_io.specs.{Access.Access, Access.Makes, Contents.Directory, Joined.AsksNoPiece, declared.writes.Writes.Writes}
 use Rattle.host_io.specs.declared.files.Files as files
 use Rattle.host_io.specs.declared.sink.Sink as sink
 use Rattle.fip_tool.specs.{Names.IsUnneeded, Names.IsUnnamedBy, Names.MayRefuse, Said.IsMadeLine, Said.IsTexts, Seen.DidIn}
 use Rattle.fip_tool.specs.{Seen.DidSince, Seen.WroteIn, Seen.WroteForIn, Steps.CommandPlan, Steps.outcome_by, Tool.outcome_of}
 use Rattle.fip_tool.specs.{Tool.puts, Tool.asks_files, Wrote.WroteFor, declared.lines.Format.Format}
 use Rattle.fip_tool.specs.Done.{DoneWithFiles, DoneWithSource, PutsMade, RefusesAlone, WritesTexts, CommandDone}
-use Rattle.fip_making.specs.{Stops.exit_status, Payloads.made_by, Seen.AsTold, Seen.ReadsFilesAlone, Answers.Gives}
+use Rattle.fip_making.specs.{Stops.exit_status, Payloads.HasNoPieceOf, Payloads.made_by, Seen.AsTold, Seen.ReadsFilesAlone, Answers.Gives}
 use Rattle.fip_making.specs.{Answers.IsLate, declared.made.Made.Made, declared.stops.Stop.Stop}
 use Rattle.fip_making.specs.declared.stops.Stop.TheVariants as stop
 use Rattle.fip_tool.proofs.{Did.did-later, Did.are-told, WritingLemmas.tears-since}
 use Rattle.fip_tool.proofs.Faults.{faults-as, faults-of, still, faults-none}
 use Rattle.fip_tool.proofs.Refusing.{late-alone, made-alone, made-may, memory-may, usage-unasked}
 use Rattle.fip_tool.proofs.WroteLemmas.{wrote-as, wrote-none}
-use Rattle.fip_making.proofs.{Refusing.if-err-all, Refusing.if-err-as, Refusing.err-same, Tables.either-rose, SourceLemmas.nothing-read}
+use Rattle.fip_making.proofs.{Refusing.if-err-all, Refusing.if-err-as, Refusing.err-same, Tables.either-rose, Tables.if-ok-as, SourceLemmas.nothing-read}
 use Rattle.std.proofs.KnownBytes.{Appends-nil, Consumes-nil}
 use Rattle.std.proofs.lemmas.Bool.{false≢true}
 use Rattle.host_io.proofs.Once.{once-none}
@@ -69,11 +69,13 @@ module _ {H O : Type 0} {h : files.Ghosts H} {o : sink.Ghosts O} {one : FipAsked
       → ReadsFilesAlone h IsOther IsOwn before mid made → ((s : Stop) → IsOwn s → MayRefuse (Some one) s) → AsTold h made_by value before mid made
       → ((told : Directory) (value : Result (ℕ × List ℕ) Stop) (count : ℕ) → h.contents mid ≡ Some told → count ≤ h.faults mid → Gives (made_by told) (Rose count (h.faults mid)) value made
       → DidSince h o count (outcome_by (puts format out) value) told mid after old new result)
-      → PutsMade h o format made result mid after old new
-      → ((access : Access) → IsUnnamedBy (Some one) access → h.spares before after access)
+      → PutsMade h o format made result mid after old new → IfOk made (HasNoPieceOf IsOther)
+      → ((access : Access) → access ≢ Makes out → IfOk made (λ m. AsksNoPiece m.pieces.items access) → h.spares mid after access)
+      → ((access : Access) → h.spares before mid access → h.spares mid after access → h.spares before after access)
+      → ((access : Access) → IsUnnamedBy (Some one) access → IsOther access × (access ≢ Makes out))
       → IfErr made (λ s. RefusesAlone h (Some one) before mid (exit_status s))
       → DoneWithFiles h o ⊥ (Some one) result before after old new
-  done-made {IsOwn = IsOwn} {made = made} {result = result} {before = before} {mid = mid} {after = after} {old = old} {new = new} format out value outcome texts writes late reads turns gives did put spares alone = record {
+  done-made {IsOwn = IsOwn} {made = made} {result = result} {before = before} {mid = mid} {after = after} {old = old} {new = new} format out value outcome texts writes late reads turns gives did put pieces spares joins named alone = record {
     told = λ told e other.
         subst (λ (all : CommandPlan). DidIn h o all told before after old new result) (sym (outcome told))
         (did-later _ told _ _ _ _ _ _ _ _ result (λ r. r) (λ r. tears-since (h.writes after) reads.files.unwritten r) (did told (value told) (h.faults before) (reads.only.same ∙ e) reads.only.later (gives told e)));
@@ -81,7 +83,9 @@ module _ {H O : Type 0} {h : files.Ghosts H} {o : sink.Ghosts O} {one : FipAsked
     file_count = put.file_count (h.faults before) (faults-of reads.only);
     cause = λ e none. inl (either-rose _ _ _ reads.only.later put.later (λ failed. reads.only.cause failed none) (put.cause e));
     refusals = made-may made result (MayRefuse (Some one)) late (if-err-as made IsOwn (MayRefuse (Some one)) turns reads.refusals) put.refusals;
-    spares = spares;
+    spares = λ access other.
+        let known = named access other in
+        joins access (reads.files.spares access known.0) (spares access known.1 (if-ok-as made _ _ (λ m none. none access known.0) pieces));
     alone = made-alone made result mid after (λ (f : H) (s : Stop). (access : Access) → IsUnneeded (Some one) (exit_status s) access → h.spares before f access) put.refusals put.kept alone;
     later = put.later_sink;
     sink_count = put.sink_count reads.only.sink;

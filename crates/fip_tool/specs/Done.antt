@@ -63,7 +63,7 @@ pub record DoneWithFiles {H O : Type 0} (h : files.Ghosts H) (o : sink.Ghosts O)
       → Rose (h.faults files_before) (h.faults files_after) ⊎ source-rose
   -- each refusal is one of what was asked for
   pub refusals : IfErr result (MayRefuse asked)
-  -- no access is made that the words don't name; a piece of a file that is made is none
+  -- no access is made that the words don't name; a file in which a piece of a made one lies counts as asked for
   pub spares : (access : Access) → IsUnnamedBy asked access → h.spares files_before files_after access
   pub alone : IfErr result (λ s. RefusesAlone h asked files_before files_after (exit_status s))
   pub later : o.faults sink_before ≤ o.faults sink_after

@@ -12,6 +12,6 @@ returns g c =
     let made = c.capsule_of_package-made in
     let put = c.put_made.ensures in
     done-made format.Capsule c.args.out.now (λ told. capsule_value told c.args.from.now) (λ told. refl) (capsule-texts c.args.from.now c.args.out.now made.result made.ensures.count) (λ w. w) (late-packing late-of-package)
-    made.ensures.reads (λ s own. own) made.ensures.told put.told put.puts
-    (λ access other. g.met.H.Files.joins _ _ _ access (made.ensures.reads.files.spares access other.0) (put.spares access other.1))
+    made.ensures.reads (λ s own. own) made.ensures.told put.told put.puts made.ensures.pieces put.spares
+    (λ access. g.met.H.Files.joins _ _ _ access) (λ access other. other)
     (if-err-all made.result (λ s. RefusesAlone g.H.Files (Some (capsule c.args.from.now c.args.out.now)) c.args.files.now made.new.files (exit_status s)) (λ s refuses access other. made.ensures.reads.files.spares access (other)))

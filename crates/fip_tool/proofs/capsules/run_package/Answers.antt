@@ -12,6 +12,6 @@ returns g c =
     let made = c.package_of_capsule-made in
     let put = c.put_made.ensures in
     done-made format.Package c.args.out.now (λ told. repackage_value told c.args.align c.args.from.now) (λ told. refl) (package-texts c.args.align c.args.from.now c.args.out.now made.result made.ensures.count) (λ w. w) (late-packing late-of-capsule)
-    made.ensures.reads (λ s own. own) made.ensures.told put.told put.puts
-    (λ access other. g.met.H.Files.joins _ _ _ access (made.ensures.reads.files.spares access other.0) (put.spares access other.1))
+    made.ensures.reads (λ s own. own) made.ensures.told put.told put.puts made.ensures.pieces put.spares
+    (λ access. g.met.H.Files.joins _ _ _ access) (λ access other. other)
     (if-err-all made.result (λ s. RefusesAlone g.H.Files (Some (repackage c.args.align c.args.from.now c.args.out.now)) c.args.files.now made.new.files (exit_status s)) (λ s refuses access other. made.ensures.reads.files.spares access (other)))

@@ -13,6 +13,6 @@ returns g c =
     let made = c.created-made in
     let put = c.put_made.ensures in
     done-made format.Package c.args.out.now (λ told. create_value told c.args.align (map part_view c.args.named.now)) (λ told. refl) (create-texts c.args.align c.args.out.now made.result c.args.named.now made.ensures.count) (λ w. w) (late-packing (λ s late. late))
-    made.ensures.reads (λ s own. own) made.ensures.told put.told put.puts
-    (λ access other. g.met.H.Files.joins _ _ _ access (made.ensures.reads.files.spares access (of-map (λ (p : NamedFile). access ≢ Asks p.file) part_view c.args.named.now other.0)) (put.spares access other.1))
+    made.ensures.reads (λ s own. own) made.ensures.told put.told put.puts made.ensures.pieces put.spares
+    (λ access. g.met.H.Files.joins _ _ _ access) (λ access other. (of-map (λ (p : NamedFile). access ≢ Asks p.file) part_view c.args.named.now other.0, other.1))
     (if-err-all made.result (λ s. RefusesAlone g.H.Files (Some (create c.args.align c.args.out.now (map part_view c.args.named.now))) c.args.files.now made.new.files (exit_status s)) (λ s refuses access other. made.ensures.reads.files.spares access (of-map (λ (p : NamedFile). access ≢ Asks p.file) part_view c.args.named.now other)))

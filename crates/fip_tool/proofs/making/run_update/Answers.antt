@@ -13,8 +13,8 @@ returns g c =
     let made = c.updated-made in
     let put = c.put_made.ensures in
     done-made format.Package c.args.remade.now.out.now (λ told. update_value told c.args.remade.now.align c.args.remade.now.from.now (map part_view c.args.named.now)) (λ told. refl) (update-texts c.args.remade.now.align c.args.remade.now.from.now c.args.remade.now.out.now made.result c.args.named.now made.ensures.count) (λ w. w) (late-packing late-of-entries)
-    made.ensures.reads (λ s own. own) made.ensures.told put.told put.puts
-    (λ access other. g.met.H.Files.joins _ _ _ access (made.ensures.reads.files.spares access (other.0, of-map (λ (p : NamedFile). access ≢ Asks p.file) part_view c.args.named.now other.1)) (put.spares access other.2))
+    made.ensures.reads (λ s own. own) made.ensures.told put.told put.puts made.ensures.pieces put.spares
+    (λ access. g.met.H.Files.joins _ _ _ access) (λ access other. ((other.0, of-map (λ (p : NamedFile). access ≢ Asks p.file) part_view c.args.named.now other.1), other.2))
     (if-err-as made.result (λ s. PackingOr IsLate s ⊎ ReadsFile g.H.Files c.args.remade.now.from.now c.args.files.now made.new.files)
     (λ s. RefusesAlone g.H.Files (Some (update c.args.remade.now.align c.args.remade.now.from.now c.args.remade.now.out.now (map part_view c.args.named.now))) c.args.files.now made.new.files (exit_status s))
     (λ s by refuses access other. elim by [

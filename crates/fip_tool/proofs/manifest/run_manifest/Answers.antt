@@ -1,5 +1,6 @@
 use Rattle.std.proofs.Common.{◌≡◌, ◌∙◌, ◌∷◌, [], ℕ, List, Vec, ap, length, map, refl, rules, sym, ◌≢◌, Some}
 use Rattle.std.proofs.lemmas.List.{length-map}
+use Rattle.std.proofs.lemmas.List.Elements.{All-nil}
 use Rattle.std.specs.Global.{Global}
 use Rattle.base_core.specs.Counts.{Rose}
 use Rattle.fip_words.specs.Order as asks
@@ -28,7 +29,7 @@ returns g c =
     (λ r. rose-from _ _ _ c.manifest.ensures.reads.only.later r) (λ r. tears-since (g.H.Files.writes c.join_and_print.new.files) c.manifest.ensures.reads.files.unwritten r)
     (put.told told (c.manifest.ensures.reads.only.same ∙ e)))
     (λ access other.
-    g.met.H.Files.joins _ _ _ access (c.manifest.ensures.reads.files.spares access (of-map (λ (r : NamedImage). access ≢ Asks r.file) image_view c.args.named.now other.0)) (put.spares access other.1))
+    g.met.H.Files.joins _ _ _ access (c.manifest.ensures.reads.files.spares access (of-map (λ (r : NamedImage). access ≢ Asks r.file) image_view c.args.named.now other.0)) (put.spares access other.1 (All-nil _)))
 
 pub returns-in_err-rows : goal.returns-in_err-rows
 returns-in_err-rows g c =

@@ -1,4 +1,5 @@
-use Rattle.std.proofs.Common.{◌≡◌, ◌∙◌, Result, Ok, Err, ap, arith, refl, subst, sym}
+use Rattle.std.proofs.Common.{◌≡◌, ◌∙◌, List, Result, Ok, Err, ap, arith, refl, subst, sym}
+use Rattle.host_io.specs.{Joined.AsksNoPiece, declared.joining.Piece.Piece}
 use Rattle.fip_tool.specs.{Lines.made_line, Done.PutsMade, Steps.FaultsOnce}
 use Rattle.fip_making.specs.{declared.made.Made.Made, declared.stops.Stop.Stop}
 use Rattle.fip_making.specs.Payloads.{IsWholeFile, made_by, made_bytes}
@@ -24,3 +25,7 @@ returns-in_err-line-clause-puts g c =
     rw (handed-on c.from_residual.result stop.NoMemory c.from_residual.ensures.1)
     (subst (λ (m : Result Made Stop). PutsMade g.H.Files g.O.Sink c.args.format m (Err stop.NoMemory) c.args.files.now c.args.files.now c.args.sink.now c.args.sink.now) (sym c.in-Ok.is)
     (puts-texts c.args.format made (made_line c.args.format made.count made.frame.size) refl (no-texts stop.NoMemory none refl (λ e. absurd cc) tt (λ e. absurd cc) (omega arith))))
+
+pub returns-clause-spares : goal.returns-clause-spares
+returns-clause-spares g c = λ access other apart.
+    c.join_and_print.ensures.spares access other (subst (λ (ps : List Piece). AsksNoPiece ps access) (sym c.as_slice-pieces.ensures.value) (rw c.in-Ok.is at apart))
