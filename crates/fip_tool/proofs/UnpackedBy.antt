@@ -8,7 +8,7 @@ use Rattle.host_io.specs.{Access.Access, Access.Makes, Contents.Directory}
 use Rattle.host_io.specs.Access as way
 use Rattle.host_io.specs.declared.files.Files as files
 use Rattle.host_io.specs.declared.sink.Sink as sink
-use Rattle.fip_tool.specs.{Lines.unpacked_line, Lines.unpacked_name, Done.WritesTexts, Done.Unpacked, Seen.DidIn, Steps.Makes}
+use Rattle.fip_tool.specs.{Lines.unpacked_line, Lines.unpacked_name, Done.WritesTexts, Done.Unpacked, Done.DidIn, Steps.Makes}
 use Rattle.fip_tool.specs.{Steps.Prints, Steps.MayTear, Steps.NoneUnwritten, Tool.unpack_steps}
 use Rattle.fip_tool.specs.Steps as step
 use Rattle.fip_making.specs.declared.stops.Stop.{Stop}

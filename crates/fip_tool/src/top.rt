@@ -11,7 +11,7 @@ ghost use Rattle.fip_words.specs.Order.{FipAsked, asked, info_of_source, view};
 ghost use Rattle.fip_words.specs.Values.{is_unpacked};
 ghost use Rattle.fip_tool.specs.Converted.{Converts};
 ghost use Rattle.fip_tool.specs.Done.{CommandDone, DoneWithFiles, DoneWithSource, ToolEnded};
-ghost use Rattle.fip_tool.specs.Ends.{Reported, StopTold};
+ghost use Rattle.fip_tool.specs.Lines.{Reported, StopTold};
 ghost use Rattle.fip_tool.specs.Steps.{line_failures, sink_failed};
 ghost use Rattle.fip_tool.specs.Tool.{asks_files};
 ghost use Rattle.fip_making.specs.declared.stops.Stop.TheVariants.{SinkFault};

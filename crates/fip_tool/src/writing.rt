@@ -4,11 +4,11 @@ ghost use Rattle.base_core.specs.Counts.{Rose};
 ghost use Rattle.host_io.specs.Access.{Access, Makes};
 ghost use Rattle.host_io.specs.Contents.{Directory};
 ghost use Rattle.host_io.specs.Joined.{AsksNoPiece, HasPiece};
-ghost use Rattle.fip_tool.specs.Done.{PutsMade, WritesTexts};
-ghost use Rattle.fip_tool.specs.Seen.{DidIn, DidSince};
-ghost use Rattle.fip_tool.specs.Steps.{FaultsOnce, Makes, MayTear, NoneUnwritten, Prints, Writes, Written, outcome_by};
-ghost use Rattle.fip_making.specs.Answers.{Gives, IsLate};
+ghost use Rattle.fip_tool.specs.Done.{PutsMade, WritesTexts, DidIn};
+ghost use Rattle.fip_tool.specs.Steps.{FaultsOnce, Makes, MayTear, NoneUnwritten, Prints, Writes, Written};
+ghost use Rattle.fip_making.specs.Stops.{IsLate};
 ghost use Rattle.fip_making.specs.Payloads.{IsWholeFile, joined_pieces, made_by};
+ghost use Rattle.fip_tool.specs.Lines.{made_line};
 ghost use Rattle.fip_tool.specs.Tool.{puts};
 ghost use Rattle.fip_tool.specs.Wrote.{written_once};
 ghost use Rattle.fip_making.specs.declared.stops.Stop.{Stop};
@@ -87,11 +87,8 @@ pub fn put_made<H: Files, O: Sink>(
     made: Result<Made<'_>, Stop>,
 ) -> Result<(), Stop>
     requires { IfOk made (IsWholeFile (H.contents files.old)) }
-    ensures told { (told : Directory) (value : Result (ℕ × List ℕ) Stop) (before : ℕ)
-        → H.contents files.old ≡ Some told → before ≤ H.faults files.old
-        → Gives (made_by told) (Rose before (H.faults files.old)) value made.entry
-        → DidSince H.Files O.Sink before (outcome_by (puts format out.now) value) told
-        files.old files.new sink.old sink.new result }
+    ensures told { (told : Directory) → H.contents files.old ≡ Some told → IfOk made.entry (λ m. DidIn H.Files O.Sink
+        (Makes (puts (made_line format) out.now (made_by told m))) told files.old files.new sink.old sink.new result) }
     ensures spares { (access : Access) → access ≢ Makes out.now → IfOk made.entry (λ m. AsksNoPiece m.pieces.items access)
         → H.spares files.old files.new access }
     ensures puts { PutsMade H.Files O.Sink format made.entry result files.old files.new sink.old sink.new }
