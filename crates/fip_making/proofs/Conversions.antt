@@ -6,7 +6,7 @@ use Rattle.capsule_tables.specs.{Making.capsule_bytes, Making.make_fault, Answer
 use Rattle.capsule_tables.specs.declared.faults.CapsuleStop.{CapsuleStop}
 use Rattle.capsule_tables.proofs.{Made.same-make_fault, Within.ends-within}
 use Rattle.fip_making.specs.{Payloads.HasEntry, Payloads.file_bytes, declared.stops.Stop.Stop}
-use Rattle.fip_making.specs.Values.{enclose_value, and_then, capsule_in, capsule_value, kept_part, pack_value, repackage_value, table_or, there}
+use Rattle.fip_making.specs.Values.{enclose_value, and_then, capsule_in, capsule_value, kept_part, pack_value, repackage_value, or_stop, there}
 use Rattle.fip_making.specs.declared.stops.Stop.TheVariants as stop
 use Rattle.std.specs.Prelude.{unwrap_or}
 use Rattle.std.specs.List.{All}
@@ -33,7 +33,7 @@ abbrev pub table_in : Directory → List ℕ → Result Toc Stop
 table_in told name = and_then (capsule_in told name) (λ p. Ok p.1)
 
 abbrev capsule_by : Option (List ℕ) → Result (List ℕ × Toc) Stop
-capsule_by o = and_then (there o) (λ bytes. and_then (table_or stop.NotCapsule (capsule_of bytes)) (λ t. Ok (bytes, t)))
+capsule_by o = and_then (there o) (λ bytes. and_then (or_stop stop.NotCapsule (capsule_of bytes)) (λ t. Ok (bytes, t)))
 
 abbrev table_by : Result (List ℕ × Toc) Stop → Result Toc Stop
 table_by r = and_then r (λ p. Ok p.1)
@@ -47,7 +47,7 @@ pub record IsEnclosed (told : Directory) (name : List ℕ) (toc : Toc) : Type 0 
 pub opened-capsule : (told : Directory) (name : List ℕ) (toc : Toc) → table_in told name ≡ Ok toc → IsEnclosed told name toc
 opened-capsule told name toc e = by-file (told name) refl e
   where
-    by-table : (bytes : List ℕ) (r : Result Toc CapsuleFault) → told name ≡ Some bytes → capsule_of bytes ≡ r → table_by (and_then (table_or stop.NotCapsule r) (λ t. Ok (bytes, t))) ≡ Ok toc → IsEnclosed told name toc
+    by-table : (bytes : List ℕ) (r : Result Toc CapsuleFault) → told name ≡ Some bytes → capsule_of bytes ≡ r → table_by (and_then (or_stop stop.NotCapsule r) (λ t. Ok (bytes, t))) ≡ Ok toc → IsEnclosed told name toc
     by-table bytes (Err f) is t h = cc
     by-table bytes (Ok found) is t h =
         let same : found ≡ toc = cc in
@@ -59,7 +59,7 @@ opened-capsule told name toc e = by-file (told name) refl e
 
 pub capsule-ok : (told : Directory) (name bytes : List ℕ) (toc : Toc) → told name ≡ Some bytes → capsule_of bytes ≡ Ok toc → table_in told name ≡ Ok toc
 capsule-ok told name bytes toc is table =
-    ap (λ (o : Option (List ℕ)). table_by (capsule_by o)) is ∙ ap (λ (r : Result Toc CapsuleFault). table_by (and_then (table_or stop.NotCapsule r) (λ t. Ok (bytes, t)))) table
+    ap (λ (o : Option (List ℕ)). table_by (capsule_by o)) is ∙ ap (λ (r : Result Toc CapsuleFault). table_by (and_then (or_stop stop.NotCapsule r) (λ t. Ok (bytes, t)))) table
 
 -- ---- what a reading gives
 
@@ -99,7 +99,7 @@ unfolding repackage_value
 package-of told a name toc o =
     let k : List ℕ × Toc → Result (ℕ × List ℕ) Stop = λ p. pack_value p.1.serial p.1.flags (map (kept_part p.0) p.1.entries) a in
     ap (λ (b : Option (List ℕ)). and_then (capsule_by b) k) o.is
-    ∙ ap (λ (r : Result Toc CapsuleFault). and_then (and_then (table_or stop.NotCapsule r) (λ t. Ok (o.bytes, t))) k) o.table
+    ∙ ap (λ (r : Result Toc CapsuleFault). and_then (and_then (or_stop stop.NotCapsule r) (λ t. Ok (o.bytes, t))) k) o.table
     ∙ ap (λ (f : Option (List ℕ)). k (unwrap_or f [], toc)) (sym o.is)
 
 pub package-err : (told : Directory) (a : ℕ) (name : List ℕ) (s : Stop) → table_in told name ≡ Err s → repackage_value told a name ≡ Err s

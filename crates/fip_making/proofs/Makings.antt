@@ -1,16 +1,17 @@
 -- What is made of payloads.
 use Rattle.std.proofs.Common.{◌≡◌, ◌≢◌, ℕ, List, Option, Some, None, Ok, Err, Vec, inl, inr, subst, length, arith, refl, sym, ap, ◌∙◌, ◌<◌, zero, suc, [], ◌∷◌, Result, get_or, map}
+use Rattle.std.proofs.lemmas.Result.{IfOk-weaker}
 use Rattle.base_core.specs.Counts.{Rose}
 use Rattle.host_io.specs.{Access.Access, Access.Asks, Whole.HasFileCause, Whole.LacksFile, declared.stops.ReadStop.ReadStop, declared.joining.Piece.Piece}
 use Rattle.host_io.specs.Contents.{Directory, HasRange, Holds}
 use Rattle.host_io.specs.Joined.{Chunk, HasPiece, chunk_in, joined}
 use Rattle.host_io.specs.declared.stops.ReadStop.TheVariants as read_stop
 use Rattle.std.specs.Global.{Global}
-use Rattle.fip_making.specs.{Answers.Gives, Values.file_value, Values.size_in, Values.there, Stops.unread_by, Stops.packed_by}
+use Rattle.fip_making.specs.{Answers.Gives, Values.size_in, Values.there, Stops.unread_by, Stops.packed_by}
 use Rattle.fip_making.specs.{declared.made.Made.Made, declared.payloads.Payload.Payload, declared.stops.Stop.Stop}
 use Rattle.fip_making.specs.Payloads.{MakesFile, IsElsewhere, IsMadeOf, IsThere, IsWholeFile, made_by, made_bytes, outline_of, part_told, payload_piece, payload_pieces}
 use Rattle.fip_making.specs.declared.stops.Stop.TheVariants as stop
-use Rattle.fip_making.proofs.{Tables.sized, Tables.if-ok-as, Packings.zeroed-all, Packings.gives-same}
+use Rattle.fip_making.proofs.{Tables.sized, Packings.zeroed-all, Packings.gives-same}
 use Rattle.std.proofs.lemmas.List.{length-map}
 use Rattle.std.specs.List.{All}
 use Rattle.fwu_formats.specs.Package.{Part}
@@ -32,24 +33,19 @@ has-range (Some d) name n len knows e = go (d name) refl
     go (Some bytes) is = rw is (let same : bytes ≡ s.0 = (let both : ◌≡◌ {A = Option (List ℕ)} (Some bytes) (Some s.0) = sym is ∙ s.1 in cc) in let long = ap length same in omega (arith, long, s.2, e))
 
 -- what a file gives that was read whole
-pub value-read : (o : Option Directory) (told : Directory) (name bytes : List ℕ) → o ≡ Some told → Holds o name bytes → file_value told name ≡ Ok bytes
-unfolding file_value
+pub value-read : (o : Option Directory) (told : Directory) (name bytes : List ℕ) → o ≡ Some told → Holds o name bytes → there (told name) ≡ Ok bytes
 value-read None told name bytes e h = cc
 value-read (Some d) told name bytes e h = let same : d ≡ told = cc in ap there (sym (ap (λ (f : Directory). f name) same) ∙ h)
-
-missing : (told : Directory) (name : List ℕ) → told name ≡ None → file_value told name ≡ Err stop.FileFault
-unfolding file_value
-missing told name none = ap there none
 
 -- and one that was not
 module _ (o : Option Directory) (name : List ℕ) (before now : ℕ) where
   pub value-unread : (told : Directory) (s : ReadStop) → o ≡ Some told → HasFileCause {T = Vec ℕ Global} o name before now (Err s)
-      → Gives (λ (v : Vec ℕ Global). v.items) (Rose before now) (file_value told name) (Err (unread_by s))
+      → Gives (λ (v : Vec ℕ Global). v.items) (Rose before now) (there (told name)) (Err (unread_by s))
   value-unread told read_stop.NoMemory e h = tt
   value-unread told read_stop.Failed e h =
       elim (h.failed refl) [
         | inl rose ↦ inr rose
-        | inr lacks ↦ inl (missing told name (subst (λ (d : Option Directory). LacksFile d name) e lacks))
+        | inr lacks ↦ inl (ap there (subst (λ (d : Option Directory). LacksFile d name) e lacks))
       ]
 
 -- ---- frames with payloads between their bytes
@@ -94,8 +90,8 @@ pub makes-as : {Has HasAll : Option Directory → Type 0} {IsAny IsOther : Acces
 makes-as {result = result} has others same counts made = record {
   told = λ told all. gives-same (made_by told) _ _ _ _ result (λ r. r) (same told all) (made.told told (has (Some told) all));
   whole = λ told all. made.whole told (has told all);
-  count = if-ok-as result _ _ (λ m e. e ∙ sym counts) made.count;
-  pieces = if-ok-as result _ _ (λ m none access other. none access (others access other)) made.pieces;
+  count = IfOk-weaker result _ _ (λ m e. e ∙ sym counts) made.count;
+  pieces = IfOk-weaker result _ _ (λ m none access other. none access (others access other)) made.pieces;
   asks = made.asks;
 }
 

@@ -10,8 +10,8 @@ use Rattle.fwu_formats.specs.{Manifest.Row, declared.kinds.ManifestFault.Manifes
 use Rattle.fwu_formats.specs.declared.kinds.ManifestFault.TheVariants as fault
 use Rattle.manifest_core.specs.{Shown.row, declared.rows.Row.Row as CodeRow}
 use Rattle.fip_words.specs.{Order.image_view, Values.NamedImage, Values.each, declared.values.ImageWord.ImageWord}
-use Rattle.fip_making.specs.{Answers.AsksNothing, Refusals.IsManifestStop, declared.stops.Stop.Stop}
-use Rattle.fip_making.specs.Values.{Image, and_then, file_value, image_in, image_limit, image_row, is_long, manifest_value, of_rows, size_in, sizes_value, there, unless_long}
+use Rattle.fip_making.specs.{Answers.AsksNothing, Stops.IsManifestStop, declared.stops.Stop.Stop}
+use Rattle.fip_making.specs.Values.{Image, and_then, image_in, image_limit, image_row, is_long, manifest_value, of_rows, size_in, sizes_value, there, unless_long}
 use Rattle.fip_making.specs.declared.stops.Stop.TheVariants as stop
 use Rattle.fip_making.proofs.{Refusing.err-of, Tables.sized}
 use Rattle.fip_making.proofs.Folds.{before, before-none, each-more, ends-as, made-by, more-at, plain, stopped-by, stops-at, with_one}
@@ -28,17 +28,15 @@ row_value told x = and_then (there (image_in told x)) (λ i. Ok (image_row i))
 abbrev pub rows_value : Directory → List NamedImage → Result (Option (List Row)) Stop
 rows_value told xs = and_then (there (each (image_in told) xs)) (λ images. Ok (each image_row images))
 
-pub row-made : (told : Directory) (x : NamedImage) (bytes image : List ℕ) (more : Option Row) → file_value told x.file ≡ Ok bytes → image ≡ bytes
+pub row-made : (told : Directory) (x : NamedImage) (bytes image : List ℕ) (more : Option Row) → there (told x.file) ≡ Ok bytes → image ≡ bytes
     → more ≡ image_row (record { guid = x.guid; version = x.version; bytes = image }) → row_value told x ≡ Ok more
-unfolding file_value
 row-made told x bytes image more e same is = go (told x.file) refl e
   where
     go : (o : Option (List ℕ)) → told x.file ≡ o → there o ≡ Ok bytes → row_value told x ≡ Ok more
     go None here h = cc
     go (Some b) here h = let read : b ≡ image = cc in rw (here, read, ← is) refl
 
-pub row-stopped : (told : Directory) (x : NamedImage) (s : Stop) → file_value told x.file ≡ Err s → row_value told x ≡ Err s
-unfolding file_value
+pub row-stopped : (told : Directory) (x : NamedImage) (s : Stop) → there (told x.file) ≡ Err s → row_value told x ≡ Err s
 row-stopped told x s e =
     stopped-by plain (λ o. and_then (there (image_by x o)) (λ i. Ok (image_row i))) refl (told x.file) s e
 

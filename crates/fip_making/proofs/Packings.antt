@@ -5,12 +5,13 @@ use Rattle.fwu_formats.specs.Package.{Part, packed, Entry, payload}
 use Rattle.fip_words.specs.{Order.part_view, Values.NamedFile, declared.values.FileWord.FileWord}
 use Rattle.fip_tables.specs.{Packing.pack_fault, Packing.zeroed, declared.faults.PackFault.PackFault, Files.Lacks, Files.Tells}
 use Rattle.fip_making.specs.{Answers.Gives, declared.stops.Stop.Stop, declared.payloads.Payload.Payload}
-use Rattle.fip_making.specs.Values.{and_then, create_value, new_serial, pack_value, part_in, parts_in, there, size_in, new_bytes, updated_part}
+use Rattle.fip_making.specs.Values.{and_then, create_value, new_serial, pack_value, part_in, parts_in, there, size_in, updated_part}
 use Rattle.fip_making.specs.Payloads.{HasEntry, IsThere, file_bytes, outline_of, part_told}
 use Rattle.fip_making.specs.declared.stops.Stop.TheVariants as stop
 use Rattle.fip_making.proofs.Folds.{more-at as add-at, plain, stops-at, made-by, stopped-by}
 use Rattle.fip_making.proofs.Tables.{gives-err, sized}
 use Rattle.std.specs.Prelude.{find}
+use Rattle.std.specs.Option.{option_map_or}
 use Rattle.std.specs.List.{All}
 use Rattle.std.proofs.lemmas.List.{length-drop, length-take-le, map-append, take_all}
 use Rattle.std.proofs.lemmas.List.Elements.{All-append}
@@ -125,7 +126,7 @@ module _ (told : Directory) (bytes : List ℕ) (new : List Payload) (e : Entry) 
   spelled p guid flags b same = ap (made p.guid p.flags) same ∙ ap (λ (g : List ℕ). made g p.flags b) guid ∙ ap (λ (k : ℕ). made e.guid k b) flags
 
   abbrev by-new : Option Part → Part
-  by-new o = made e.guid e.flags (new_bytes o (payload bytes e))
+  by-new o = made e.guid e.flags (option_map_or (λ (p : Part). p.bytes) o (payload bytes e))
 
   abbrev of_its_type : Option Payload
   of_its_type = find (λ p. same_bytes p.guid e.guid) new

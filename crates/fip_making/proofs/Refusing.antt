@@ -2,8 +2,8 @@
 use Rattle.std.proofs.Common.{◌≡◌, ◌∙◌, ap, Result, Err, Ok}
 use Rattle.std.specs.Prelude.{IsErrAnd, IfErr}
 use Rattle.std.proofs.lemmas.Result.{err_from_is_err_and}
-use Rattle.fip_making.specs.{declared.stops.Stop.Stop, Stops.stop_of_table, Answers.IsLate}
-use Rattle.fip_making.specs.Refusals.{IsOfCapsule, IsOfEntries, IsManifestStop, IsPackageStop, IsOfSource, PackingOr}
+use Rattle.fip_making.specs.{declared.stops.Stop.Stop, Stops.stop_of_table, Stops.IsLate}
+use Rattle.fip_making.specs.Stops.{IsOfCapsule, IsOfEntries, IsManifestStop, IsPackageStop, IsOfSource, PackingOr}
 use Rattle.fip_tables.specs.declared.toc.TocStop.{TocStop}
 use Rattle.fip_tables.specs.declared.toc.TocStop.TheVariants as toc
 use Rattle.fip_making.specs.declared.stops.Stop.TheVariants as stop
@@ -20,11 +20,6 @@ pub handed-on : {T : Type 0} (r : Result T Stop) (s : Stop) → IsErrAnd r (λ x
 handed-on r s is = let p = err_from_is_err_and r is in p.1 ∙ ap Err p.2
 
 -- ---- which stops a part of a command may end with
-
--- a stop of a part is one of the whole
-pub if-err-as : {X : Type 0} (r : Result X Stop) (P Q : Stop → Type 0) → ((s : Stop) → P s → Q s) → IfErr r P → IfErr r Q
-if-err-as (Ok x) P Q turns h = h
-if-err-as (Err s) P Q turns h = turns s h
 
 -- each stop is
 pub if-err-all : {X : Type 0} (r : Result X Stop) (P : Stop → Type 0) → ((s : Stop) → P s) → IfErr r P

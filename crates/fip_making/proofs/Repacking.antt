@@ -8,7 +8,7 @@ use Rattle.fwu_formats.specs.{Package.Entry, Package.Part, Package.Toc, Package.
 use Rattle.fip_tables.specs.Files.{Lacks, Tells}
 use Rattle.fip_words.specs.{Order.part_view, Values.NamedFile, declared.values.FileWord.FileWord}
 use Rattle.fip_making.specs.{Payloads.HasEntry, Payloads.file_bytes, declared.stops.Stop.Stop}
-use Rattle.fip_making.specs.Values.{and_then, first_missing, has_type_among, kept_part, pack_value, package_read_in, parts_in, remove_value, sized_table, table_or, there, unless_missing, update_value, updated_part}
+use Rattle.fip_making.specs.Values.{and_then, first_missing, has_type_among, kept_part, pack_value, package_read_in, parts_in, remove_value, sized_table, or_stop, there, unless, update_value, updated_part}
 use Rattle.fip_making.specs.declared.stops.Stop.TheVariants as stop
 use Rattle.fwu_formats.proofs.Tables.{ends-within}
 use Rattle.fip_making.proofs.{Packings.held-entries, Packings.held-stored, Packings.held-there, Refusing.err-of}
@@ -17,17 +17,17 @@ use Rattle.fip_making.proofs.{Packings.held-entries, Packings.held-stored, Packi
 
 -- the table in a file, where it has an entry of each of these types
 abbrev pub table_with : Directory → List ℕ → List (List ℕ) → Result Toc Stop
-table_with told name guids = and_then (sized_table told name) (λ t. unless_missing (first_missing t.0 guids) (Ok t.0))
+table_with told name guids = and_then (sized_table told name) (λ t. unless stop.NoSuchEntry (first_missing t.0 guids) (Ok t.0))
 
 -- what is made of such a package
 abbrev made_with : {Y : Type 0} → List (List ℕ) → (List ℕ × Toc → Result Y Stop) → Result (List ℕ × Toc) Stop → Result Y Stop
-made_with guids k r = and_then r (λ p. unless_missing (first_missing p.1 guids) (k p))
+made_with guids k r = and_then r (λ p. unless stop.NoSuchEntry (first_missing p.1 guids) (k p))
 
 abbrev package_of : Option (List ℕ) → Result (List ℕ × Toc) Stop
-package_of o = and_then (there o) (λ bytes. and_then (table_or stop.NotFip (toc_of bytes)) (λ t. Ok (bytes, t)))
+package_of o = and_then (there o) (λ bytes. and_then (or_stop stop.NotFip (toc_of bytes)) (λ t. Ok (bytes, t)))
 
 abbrev table_by : List (List ℕ) → Result (List ℕ × Toc) Stop → Result Toc Stop
-table_by guids r = and_then {X = Toc × ℕ} (and_then r (λ p. Ok (p.1, length p.0))) (λ t. unless_missing (first_missing t.0 guids) (Ok t.0))
+table_by guids r = and_then {X = Toc × ℕ} (and_then r (λ p. Ok (p.1, length p.0))) (λ t. unless stop.NoSuchEntry (first_missing t.0 guids) (Ok t.0))
 
 -- the package that such a table is of
 pub record IsOpened (told : Directory) (name : List ℕ) (guids : List (List ℕ)) (toc : Toc) : Type 0 where
@@ -40,14 +40,14 @@ pub opened : (told : Directory) (name : List ℕ) (guids : List (List ℕ)) (toc
 unfolding sized_table
 opened told name guids toc e = by-file (told name) refl e
   where
-    by-missing : (bytes : List ℕ) (found : Toc) (m : Option (List ℕ)) → told name ≡ Some bytes → toc_of bytes ≡ Ok found → first_missing found guids ≡ m → unless_missing m (Ok found) ≡ Ok toc
+    by-missing : (bytes : List ℕ) (found : Toc) (m : Option (List ℕ)) → told name ≡ Some bytes → toc_of bytes ≡ Ok found → first_missing found guids ≡ m → unless stop.NoSuchEntry m (Ok found) ≡ Ok toc
         → IsOpened told name guids toc
     by-missing bytes found None is t none h =
         let same : found ≡ toc = cc in
         record { bytes = bytes; is = is; table = t ∙ ap (λ (x : Toc). Ok x) same; all = subst (λ (x : Toc). first_missing x guids ≡ None) same none }
     by-missing bytes found (Some guid) is t some h = cc
 
-    by-table : (bytes : List ℕ) (r : Result Toc FipFault) → told name ≡ Some bytes → toc_of bytes ≡ r → table_by guids (and_then (table_or stop.NotFip r) (λ t. Ok (bytes, t))) ≡ Ok toc → IsOpened told name guids toc
+    by-table : (bytes : List ℕ) (r : Result Toc FipFault) → told name ≡ Some bytes → toc_of bytes ≡ r → table_by guids (and_then (or_stop stop.NotFip r) (λ t. Ok (bytes, t))) ≡ Ok toc → IsOpened told name guids toc
     by-table bytes (Err f) is t h = cc
     by-table bytes (Ok found) is t h = by-missing bytes found (first_missing found guids) is t refl h
 
@@ -57,15 +57,15 @@ opened told name guids toc e = by-file (told name) refl e
 
 -- a stop of the table is one of what is made
 pub stopped : {Y : Type 0} (told : Directory) (name : List ℕ) (guids : List (List ℕ)) (k : List ℕ × Toc → Result Y Stop) (s : Stop) → table_with told name guids ≡ Err s
-    → and_then (package_read_in told name) (λ p. unless_missing (first_missing p.1 guids) (k p)) ≡ Err s
+    → and_then (package_read_in told name) (λ p. unless stop.NoSuchEntry (first_missing p.1 guids) (k p)) ≡ Err s
 unfolding sized_table
 stopped {Y} told name guids k s e = by-file (told name) e
   where
-    by-missing : (bytes : List ℕ) (found : Toc) (m : Option (List ℕ)) → unless_missing m (Ok found) ≡ Err s → unless_missing m (k (bytes, found)) ≡ Err s
+    by-missing : (bytes : List ℕ) (found : Toc) (m : Option (List ℕ)) → unless stop.NoSuchEntry m (Ok found) ≡ Err s → unless stop.NoSuchEntry m (k (bytes, found)) ≡ Err s
     by-missing bytes found None h = cc
     by-missing bytes found (Some guid) h = err-of h
 
-    by-table : (bytes : List ℕ) (r : Result Toc FipFault) → table_by guids (and_then (table_or stop.NotFip r) (λ t. Ok (bytes, t))) ≡ Err s → made_with guids k (and_then (table_or stop.NotFip r) (λ t. Ok (bytes, t))) ≡ Err s
+    by-table : (bytes : List ℕ) (r : Result Toc FipFault) → table_by guids (and_then (or_stop stop.NotFip r) (λ t. Ok (bytes, t))) ≡ Err s → made_with guids k (and_then (or_stop stop.NotFip r) (λ t. Ok (bytes, t))) ≡ Err s
     by-table bytes (Err f) h = err-of h
     by-table bytes (Ok found) h = by-missing bytes found (first_missing found guids) h
 
@@ -75,11 +75,11 @@ stopped {Y} told name guids k s e = by-file (told name) e
 
 -- and where there is none
 pub going-on : {Y : Type 0} (told : Directory) (name : List ℕ) (guids : List (List ℕ)) (toc : Toc) (k : List ℕ × Toc → Result Y Stop) → (o : IsOpened told name guids toc)
-    → and_then (package_read_in told name) (λ p. unless_missing (first_missing p.1 guids) (k p)) ≡ k (file_bytes told name, toc)
+    → and_then (package_read_in told name) (λ p. unless stop.NoSuchEntry (first_missing p.1 guids) (k p)) ≡ k (file_bytes told name, toc)
 going-on told name guids toc k o =
     ap (λ (f : Option (List ℕ)). made_with guids k (package_of f)) o.is
-    ∙ ap (λ (r : Result Toc FipFault). made_with guids k (and_then (table_or stop.NotFip r) (λ t. Ok (o.bytes, t)))) o.table
-    ∙ ap (λ (m : Option (List ℕ)). unless_missing m (k (o.bytes, toc))) o.all
+    ∙ ap (λ (r : Result Toc FipFault). made_with guids k (and_then (or_stop stop.NotFip r) (λ t. Ok (o.bytes, t)))) o.table
+    ∙ ap (λ (m : Option (List ℕ)). unless stop.NoSuchEntry m (k (o.bytes, toc))) o.all
     ∙ ap (λ (f : Option (List ℕ)). k (unwrap_or f [], toc)) (sym o.is)
 
 -- ---- what its file holds

@@ -1,7 +1,7 @@
 -- What a reading of the source gives.
 use Rattle.std.proofs.Common.{◌≡◌, ◌≢◌, ℕ, Result, Ok, Err, ap, refl, inl, inr, ◌≤◌, ◌<◌, ◌+◌, List, [], ◌++◌, Option, true, false, length, nat_lt, arith, ◌∙◌, length-append}
 use Rattle.fip_making.specs.{Answers.Gives, Answers.source_failed, Answers.source_failures, declared.stops.Stop.Stop}
-use Rattle.fip_making.specs.{Seen.FedSome, Values.GivenTo, Values.StopsInTime, Values.given_table, Values.source_limit}
+use Rattle.fip_making.specs.{Answers.FedSome, Values.GivenTo, Values.StopsInTime, Values.given_table, Values.source_limit}
 use Rattle.fip_making.specs.declared.stops.Stop.TheVariants as stop
 use Rattle.std.specs.Io.KnownBytes.{Consumes, IsAtEnd}
 use Rattle.std.proofs.KnownBytes.{Consumes-nil, Consumes-trans}

@@ -6,7 +6,7 @@ use Rattle.fwu_formats.specs.{Package.Toc, Package.toc_of, declared.kinds.FipFau
 use Rattle.fip_tables.specs.{Files.IsTocAnswer, Files.Lacks, Files.Tells, declared.toc.TocStop.TocStop}
 use Rattle.fip_tables.specs.declared.toc.TocStop.TheVariants.{Fault, ReadFailed}
 use Rattle.fip_making.specs.{Answers.Gives, Stops.stop_of_table, declared.stops.Stop.Stop}
-use Rattle.fip_making.specs.Values.{and_then, size_in, sized_table, table_or, there}
+use Rattle.fip_making.specs.Values.{and_then, size_in, sized_table, or_stop, there}
 use Rattle.fip_making.specs.declared.stops.Stop.TheVariants as stop
 use Rattle.fip_making.proofs.Folds.{after-ok, is-there, made-by, stopped-by}
 
@@ -18,10 +18,6 @@ rose-from a b c le (inr full) = inr full
 pub rose-still : (a b c : ℕ) → a ≡ b → Rose b c → Rose a c
 rose-still a b c same (inl rose) = inl (omega arith)
 rose-still a b c same (inr full) = inr full
-
-pub rose-until : (a b c : ℕ) → Rose a b → b ≤ c → Rose a c
-rose-until a b c (inl rose) le = inl (omega arith)
-rose-until a b c (inr full) le = inr (omega arith)
 
 pub tells : (o : Option Directory) (files : Directory) (name bytes : List ℕ) → o ≡ Some files → files name ≡ Some bytes → Tells o name bytes
 tells None files name bytes e h = cc
@@ -40,16 +36,6 @@ gives-err view other rose late v w stop.NoMemory rises so g = tt
 gives-err view other rose late v w stop.SinkFault rises so g = g
 gives-err view other rose late v w s rises so g = so g
 
--- a fault of a first part, or of the next
-pub either-rose : {A : Type 0} (a b c : ℕ) → a ≤ b → b ≤ c → (A → Rose a b) → A ⊎ Rose b c → Rose a c
-either-rose a b c le more first (inl x) = rose-until a b c (first x) more
-either-rose a b c le more first (inr r) = rose-from a b c le r
-
--- what is known of what was made
-pub if-ok-as : {X E : Type 0} (r : Result X E) (P Q : X → Type 0) → ((x : X) → P x → Q x) → IfOk r P → IfOk r Q
-if-ok-as (Ok x) P Q turns h = turns x h
-if-ok-as (Err s) P Q turns h = h
-
 -- a file that has a size has bytes
 pub sized : (files : Directory) (name : List ℕ) (n : ℕ) → size_in files name ≡ Ok n → (bytes : List ℕ) × (files name ≡ Some bytes) × (length bytes ≡ n)
 unfolding size_in
@@ -62,7 +48,7 @@ pub size-err : (files : Directory) (name : List ℕ) (s : Stop) → size_in file
 unfolding size_in sized_table
 size-err files name s e =
     stopped-by {W = Toc × ℕ} (made-by length)
-    (λ o. and_then {X = List ℕ × Toc} (and_then (there o) (λ bytes. and_then (table_or stop.NotFip (toc_of bytes)) (λ t. Ok (bytes, t))))
+    (λ o. and_then {X = List ℕ × Toc} (and_then (there o) (λ bytes. and_then (or_stop stop.NotFip (toc_of bytes)) (λ t. Ok (bytes, t))))
     (λ p. Ok (p.1, length p.0))) refl (files name) s e
 
 pub table-ok : (files : Directory) (name bytes : List ℕ) (n : ℕ) (toc : Toc) → files name ≡ Some bytes → length bytes ≡ n → toc_of bytes ≡ Ok toc → sized_table files name ≡ Ok (toc, n)

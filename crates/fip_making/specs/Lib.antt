@@ -2,5 +2,3 @@ pub mod Stops
 pub mod Answers
 pub mod Values
 pub mod Payloads
-pub mod Seen
-pub mod Refusals

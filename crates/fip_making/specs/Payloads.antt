@@ -5,7 +5,7 @@ use Rattle.host_io.specs.{Access.Access, Access.Asks, Contents.Directory, Conten
 use Rattle.host_io.specs.Joined.{AsksNoPiece, HasPiece, chunk_in, joined}
 use Rattle.fip_tables.specs.declared.frame.Frame.{Frame}
 use Rattle.fwu_formats.specs.Package.{Entry, Part}
-use Rattle.fip_making.specs.{Answers.AsksNothing, Answers.Gives, Answers.IsLate, Refusals.PackingOr, declared.made.Made.Made}
+use Rattle.fip_making.specs.{Answers.AsksNothing, Answers.Gives, Stops.IsLate, Stops.PackingOr, declared.made.Made.Made}
 use Rattle.fip_making.specs.{declared.payloads.Payload.Payload, declared.stops.Stop.Stop}
 
 -- the bytes of a file, by the files, and none of one that isn't there

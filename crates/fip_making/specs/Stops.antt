@@ -1,5 +1,5 @@
--- The stops of commands, and the exit status of each.
-use Rattle.std.specs.Prelude.{ℕ}
+-- The stops of commands, the exit status of each, and with which a part of a command may end.
+use Rattle.std.specs.Prelude.{◌≢◌, ⊤, ℕ}
 use Rattle.host_io.specs.{declared.stops.JoinStop.JoinStop, declared.stops.ReadStop.ReadStop}
 use Rattle.host_io.specs.declared.stops.JoinStop.TheVariants as join_stop
 use Rattle.host_io.specs.declared.stops.ReadStop.TheVariants as read_stop
@@ -47,3 +47,46 @@ abbrev pub unmade_by : JoinStop → Stop
 unmade_by join_stop.Unread = stop.FileFault
 unmade_by join_stop.Failed = stop.FileFault
 unmade_by join_stop.NoMemory = stop.NoMemory
+
+-- ---- which stops a part of a command may end with, whatever files there are: what it reads and makes decides that
+
+-- a stop that may come when some steps are done
+abbrev pub IsLate : Stop → Type 0
+IsLate stop.FileFault = ⊤
+IsLate stop.SinkFault = ⊤
+IsLate stop.NoMemory = ⊤
+IsLate s = ⊥
+
+-- of what doesn't end for want of memory
+abbrev pub Unstarved : (Stop → Type 0) → Stop → Type 0
+Unstarved IsOwn s = IsOwn s × (s ≢ stop.NoMemory)
+
+-- of a package that is read
+abbrev pub IsPackageStop : Stop → Type 0
+IsPackageStop (stop.NotFip f) = ⊤
+IsPackageStop s = IsLate s
+
+-- of a package that the source gives
+abbrev pub IsOfSource : Stop → Type 0
+IsOfSource stop.TooLong = ⊤
+IsOfSource s = IsPackageStop s
+
+-- of entries of a package, which are named
+abbrev pub IsOfEntries : Stop → Type 0
+IsOfEntries (stop.NoSuchEntry guid) = ⊤
+IsOfEntries s = IsPackageStop s
+
+-- of a capsule that is read
+abbrev pub IsOfCapsule : Stop → Type 0
+IsOfCapsule (stop.NotCapsule f) = ⊤
+IsOfCapsule s = IsLate s
+
+-- of a manifest that is made
+abbrev pub IsManifestStop : Stop → Type 0
+IsManifestStop (stop.NoManifest f) = ⊤
+IsManifestStop s = IsLate s
+
+-- of a package or a capsule that is made: one of these stops, or it is not packed
+abbrev pub PackingOr : (Stop → Type 0) → Stop → Type 0
+PackingOr IsBefore (stop.NotPacked f) = ⊤
+PackingOr IsBefore s = IsBefore s

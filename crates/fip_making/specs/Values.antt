@@ -1,15 +1,15 @@
 -- What is read of files, and what is made of it, by their bytes.
 use Rattle.std.specs.Prelude.{◌≡◌, ◌≤◌, ◌⊎◌, ℕ, Bool, not, ◌||◌, ◌==◌, List, ◌++◌, Option, Some, None, Result, Ok, Err, if◌then◌else◌, length, map, filter, find, nat_lt, option_map}
-use Rattle.std.specs.List.{list_any}
+use Rattle.std.specs.{List.list_any, Option.option_map_or}
 use Rattle.std.specs.Io.KnownBytes.{Consumes, IsAtEnd}
 use Rattle.base_core.specs.Bytes.{same_bytes}
 use Rattle.sha2.specs.Sha256.{sha256}
 use Rattle.host_io.specs.Contents.{Directory}
-use Rattle.fwu_formats.specs.{Manifest.Row, Manifest.manifest_bytes, declared.kinds.FipFault.FipFault, Capsule.capsule_of}
+use Rattle.fwu_formats.specs.{Manifest.Row, Manifest.manifest_bytes, Capsule.capsule_of}
 use Rattle.fwu_formats.specs.Package.{Entry, Part, Toc, has_guid, packed, payload, toc_of}
 use Rattle.fwu_formats.specs.declared.kinds.ManifestFault.TheVariants as fault
 use Rattle.capsule_tables.specs.Making.{capsule_bytes, make_fault}
-use Rattle.fip_tables.specs.{Answers.decided, Packing.pack_fault, declared.faults.PackFault.PackFault}
+use Rattle.fip_tables.specs.{Answers.decided, Packing.pack_fault}
 use Rattle.fip_words.specs.Values.{NamedFile, NamedImage, each}
 use Rattle.fip_making.specs.declared.stops.Stop.{Stop}
 use Rattle.fip_making.specs.declared.stops.Stop.TheVariants as stop
@@ -23,17 +23,22 @@ abbrev pub there : {X : Type 0} → Option X → Result X Stop
 there None = Err stop.FileFault
 there (Some x) = Ok x
 
--- a table, or the stop of its fault
-abbrev pub table_or : {F : Type 0} → (F → Stop) → Result Toc F → Result Toc Stop
-table_or stopped (Ok t) = Ok t
-table_or stopped (Err f) = Err (stopped f)
+-- a value, or the stop of its fault
+abbrev pub or_stop : {F X : Type 0} → (F → Stop) → Result X F → Result X Stop
+or_stop stopped (Ok x) = Ok x
+or_stop stopped (Err f) = Err (stopped f)
+
+-- a value, unless something is found that stops it
+abbrev pub unless : {A X : Type 0} → (A → Stop) → Option A → Result X Stop → Result X Stop
+unless stopped None value = value
+unless stopped (Some a) value = Err (stopped a)
 
 -- ---- what files give
 
 -- a package's bytes, and its table
 abbrev pub package_read_in : Directory → List ℕ → Result (List ℕ × Toc) Stop
 package_read_in files name =
-    and_then (there (files name)) (λ bytes. and_then (table_or stop.NotFip (toc_of bytes)) (λ t. Ok (bytes, t)))
+    and_then (there (files name)) (λ bytes. and_then (or_stop stop.NotFip (toc_of bytes)) (λ t. Ok (bytes, t)))
 
 -- some bytes are a package with this table
 abbrev pub IsTableOfSome : Toc → Type 0
@@ -42,7 +47,7 @@ IsTableOfSome t = (bytes : List ℕ) × (toc_of bytes ≡ Ok t)
 -- a capsule's bytes, and its table
 abbrev pub capsule_in : Directory → List ℕ → Result (List ℕ × Toc) Stop
 capsule_in files name =
-    and_then (there (files name)) (λ bytes. and_then (table_or stop.NotCapsule (capsule_of bytes)) (λ t. Ok (bytes, t)))
+    and_then (there (files name)) (λ bytes. and_then (or_stop stop.NotCapsule (capsule_of bytes)) (λ t. Ok (bytes, t)))
 
 abbrev pub part_in : Directory → NamedFile → Option Part
 part_in files p = option_map (λ bytes. record { guid = p.guid; flags = 0; bytes = bytes }) (files p.file)
@@ -59,26 +64,18 @@ sized_table files name = and_then (package_read_in files name) (λ p. Ok (p.1, l
 unfoldable pub size_in : Directory → List ℕ → Result ℕ Stop
 size_in files name = and_then (there (files name)) (λ bytes. Ok (length bytes))
 
--- the bytes of a file
-unfoldable pub file_value : Directory → List ℕ → Result (List ℕ) Stop
-file_value files name = there (files name)
-
 -- ---- what the source gives
 
 -- the most bytes that are read of the source
 abbrev pub source_limit : ℕ
 source_limit = 4294967296
 
-abbrev pub unless_decided : {X : Type 0} → Result (Unit {0}) FipFault → Result X Stop → Result X Stop
-unless_decided (Ok none) value = value
-unless_decided (Err f) value = Err (stop.NotFip f)
-
 -- of the bytes that the source gave: a fault that no further bytes mend comes first, and then too many bytes
 unfoldable pub given_table : List ℕ → Result (Toc × ℕ) Stop
 given_table given =
-    unless_decided (decided (toc_of given))
-    (if nat_lt source_limit (length given) then Err stop.TooLong
-    else and_then (table_or stop.NotFip (toc_of given)) (λ t. Ok (t, length given)))
+    and_then (or_stop stop.NotFip (decided (toc_of given))) (λ none.
+    if nat_lt source_limit (length given) then Err stop.TooLong
+    else and_then (or_stop stop.NotFip (toc_of given)) (λ t. Ok (t, length given)))
 
 -- But for the last read, of at most 4096 bytes, the bytes that were read were not too many,
 -- and had no fault that no further bytes mend.
@@ -104,13 +101,10 @@ GivenTo view value was left source-rose (Err s) given = Consumes was left given 
 
 -- ---- packages that are made
 
-abbrev pub unless_fault : {X : Type 0} → Option PackFault → X → Result X Stop
-unless_fault None made = Ok made
-unless_fault (Some f) made = Err (stop.NotPacked f)
-
 -- what is packed: how many entries, and the bytes; or the first fault
 unfoldable pub pack_value : ℕ → ℕ → List Part → ℕ → Result (ℕ × List ℕ) Stop
-pack_value serial flags parts align = unless_fault (pack_fault parts align) (length parts, packed serial flags parts align)
+pack_value serial flags parts align =
+    unless stop.NotPacked (pack_fault parts align) (Ok (length parts, packed serial flags parts align))
 
 -- the serial number of a package that is new
 abbrev pub new_serial : ℕ
@@ -123,23 +117,18 @@ create_value files align parts = and_then (parts_in files parts) (λ ps. pack_va
 abbrev pub first_missing : Toc → List (List ℕ) → Option (List ℕ)
 first_missing t guids = find (λ guid. not (list_any (has_guid guid) t.entries)) guids
 
-abbrev pub unless_missing : {X : Type 0} → Option (List ℕ) → Result X Stop → Result X Stop
-unless_missing None value = value
-unless_missing (Some guid) value = Err (stop.NoSuchEntry guid)
-
 -- an entry's part, with the new payload where there is one
-abbrev pub new_bytes : Option Part → List ℕ → List ℕ
-new_bytes None old = old
-new_bytes (Some p) old = p.bytes
-
 abbrev pub updated_part : List ℕ → List Part → Entry → Part
-updated_part bytes new e =
-    record { guid = e.guid; flags = e.flags; bytes = new_bytes (find (λ p. same_bytes p.guid e.guid) new) (payload bytes e) }
+updated_part bytes new e = record {
+  guid = e.guid;
+  flags = e.flags;
+  bytes = option_map_or (λ p. p.bytes) (find (λ p. same_bytes p.guid e.guid) new) (payload bytes e);
+}
 
 -- serial number, flags and order stay
 unfoldable pub update_value : Directory → ℕ → List ℕ → List NamedFile → Result (ℕ × List ℕ) Stop
 update_value files align from parts =
-    and_then (package_read_in files from) (λ p. unless_missing (first_missing p.1 (map (λ q. q.guid) parts))
+    and_then (package_read_in files from) (λ p. unless stop.NoSuchEntry (first_missing p.1 (map (λ q. q.guid) parts))
     (and_then (parts_in files parts) (λ new. pack_value p.1.serial p.1.flags (map (updated_part p.0 new) p.1.entries) align)))
 
 abbrev pub kept_part : List ℕ → Entry → Part
@@ -150,14 +139,14 @@ has_type_among guids e = list_any (λ guid. same_bytes guid e.guid) guids
 
 unfoldable pub remove_value : Directory → ℕ → List ℕ → List (List ℕ) → Result (ℕ × List ℕ) Stop
 remove_value files align from guids =
-    and_then (package_read_in files from) (λ p. unless_missing (first_missing p.1 guids)
+    and_then (package_read_in files from) (λ p. unless stop.NoSuchEntry (first_missing p.1 guids)
     (pack_value p.1.serial p.1.flags (map (kept_part p.0) (filter (λ e. not (has_type_among guids e)) p.1.entries)) align))
 
 -- ---- from packages to capsules, and back
 
 -- the capsule of parts: how many items, and the bytes; or the first fault
 unfoldable pub enclose_value : List Part → Result (ℕ × List ℕ) Stop
-enclose_value parts = unless_fault (make_fault parts) (length parts, capsule_bytes parts)
+enclose_value parts = unless stop.NotPacked (make_fault parts) (Ok (length parts, capsule_bytes parts))
 
 -- of all entries, in their order
 unfoldable pub capsule_value : Directory → List ℕ → Result (ℕ × List ℕ) Stop
@@ -183,14 +172,14 @@ image_in files i = option_map (λ bytes. record { guid = i.guid; version = i.ver
 abbrev pub image_limit : ℕ
 image_limit = 1048576
 
+abbrev pub is_long : Image → Bool
+is_long i = nat_lt image_limit (length i.bytes)
+
 -- what a manifest says of an image that is short enough
 unfoldable pub image_row : Image → Option Row
 image_row i =
-    if nat_lt image_limit (length i.bytes) then None
+    if is_long i then None
     else Some (record { guid = i.guid; size = length i.bytes; version = i.version; digest = sha256 i.bytes })
-
-abbrev pub is_long : Image → Bool
-is_long i = nat_lt image_limit (length i.bytes)
 
 -- why there is no manifest of so many images, or of one that is too long
 abbrev pub unless_long : ℕ → Bool → Result (Unit {0}) Stop

@@ -5,8 +5,8 @@ ghost use Rattle.capsule_tables.specs.Answers.{IsSomeTable};
 ghost use Rattle.host_io.specs.Access.{Asks};
 ghost use Rattle.fip_making.specs.Payloads.{HasEntry, HasNoPieceOf, IsWholeFile, file_bytes, made_by, MakesFile};
 ghost use Rattle.fip_making.specs.Values.{IsTableOfSome, capsule_value, enclose_value, kept_part, pack_value, repackage_value};
-ghost use Rattle.fip_making.specs.Refusals.{IsOfCapsule, IsPackageStop, PackingOr};
-ghost use Rattle.fip_making.specs.Seen.{AsTold, ReadsOne};
+ghost use Rattle.fip_making.specs.Stops.{IsOfCapsule, IsPackageStop, PackingOr};
+ghost use Rattle.fip_making.specs.Answers.{AsTold, ReadsOne};
 
 use crate::enclosing::enclosed;
 use crate::made::Made;

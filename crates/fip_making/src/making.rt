@@ -6,9 +6,8 @@ ghost use Rattle.host_io.specs.Reads.{ReadsFile};
 ghost use Rattle.fip_words.specs.Order.{part_view};
 ghost use Rattle.fip_making.specs.Payloads.{MakesFile, HasEntry, HasNoPieceOf, IsElsewhere, IsThere, IsWholeFile, file_bytes, made_by, part_told};
 ghost use Rattle.fip_making.specs.Values.{IsTableOfSome, and_then, create_value, first_missing, has_type_among, kept_part, pack_value, parts_in, remove_value, update_value, updated_part};
-ghost use Rattle.fip_making.specs.Refusals.{IsOfEntries, PackingOr};
-ghost use Rattle.fip_making.specs.Answers.{IsLate};
-ghost use Rattle.fip_making.specs.Seen.{AsTold, ReadsFilesAlone, ReadsOne};
+ghost use Rattle.fip_making.specs.Stops.{IsOfEntries, PackingOr, IsLate};
+ghost use Rattle.fip_making.specs.Answers.{AsTold, ReadsFilesAlone, ReadsOne};
 
 use crate::made::Made;
 use crate::named::{has_type_among, table_with};

@@ -5,9 +5,8 @@ ghost use Rattle.fip_words.specs.Order.{image_view};
 ghost use Rattle.fip_words.specs.Values.{each};
 ghost use Rattle.host_io.specs.Access.{Asks};
 ghost use Rattle.manifest_core.specs.Shown.{row};
-ghost use Rattle.fip_making.specs.Refusals.{IsManifestStop};
-ghost use Rattle.fip_making.specs.Seen.{AsTold, ReadsFilesAlone, ReadsOne};
-ghost use Rattle.fip_making.specs.Answers.{AsksNothing, Gives, IsLate};
+ghost use Rattle.fip_making.specs.Stops.{IsManifestStop, IsLate};
+ghost use Rattle.fip_making.specs.Answers.{AsTold, ReadsFilesAlone, ReadsOne, AsksNothing, Gives};
 ghost use Rattle.fip_making.specs.Values.{and_then, image_in, image_row, is_long, manifest_value, of_rows, sizes_value, there, unless_long};
 ghost use Rattle.fip_making.specs.declared.stops.Stop.TheVariants as stop;
 

@@ -4,8 +4,8 @@ ghost use Rattle.base_core.specs.Bytes.{same_bytes};
 ghost use Rattle.host_io.specs.Contents.{Directory};
 ghost use Rattle.host_io.specs.Access.{Access, Asks};
 ghost use Rattle.fip_words.specs.Order.{part_view};
-ghost use Rattle.fip_making.specs.Seen.{AsTold, ReadsFilesAlone, ReadsOne};
-ghost use Rattle.fip_making.specs.Answers.{IsLate};
+ghost use Rattle.fip_making.specs.Answers.{AsTold, ReadsFilesAlone, ReadsOne};
+ghost use Rattle.fip_making.specs.Stops.{IsLate};
 ghost use Rattle.fip_making.specs.Payloads.{HasEntry, IsElsewhere, IsThere, file_bytes, outline_of, part_told, payload_piece};
 ghost use Rattle.fip_making.specs.Values.{part_in, parts_in, there, updated_part};
 

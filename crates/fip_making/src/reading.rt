@@ -1,7 +1,7 @@
 //! Whole files.
-ghost use Rattle.fip_making.specs.Seen.{AsTold, ReadsOne};
-ghost use Rattle.fip_making.specs.Answers.{IsLate};
-ghost use Rattle.fip_making.specs.Values.{file_value};
+ghost use Rattle.fip_making.specs.Answers.{AsTold, ReadsOne};
+ghost use Rattle.fip_making.specs.Stops.{IsLate};
+ghost use Rattle.fip_making.specs.Values.{there};
 
 use crate::stops::Stop;
 use host_io::{Files, read_whole};
@@ -9,7 +9,7 @@ use std::alloc::Global;
 
 /// The bytes of a file.
 pub fn read_file<H: Files>(alloc: Global, files: &mut H, name: &str) -> Result<Vec<u8>, Stop>
-    ensures told { AsTold H.Files (λ told v. v.items) (λ told. file_value told name.now) files.old files.new result }
+    ensures told { AsTold H.Files (λ told v. v.items) (λ told. there (told name.now)) files.old files.new result }
     ensures reads { ReadsOne H.Files name.now IsLate files.old files.new result }
 {
     Ok(read_whole(alloc, files, name)?)

@@ -6,9 +6,8 @@ ghost use Rattle.fwu_formats.specs.Package.{toc_of};
 ghost use Rattle.fip_tables.specs.Answers.{decided};
 ghost use Rattle.capsule_tables.specs.Answers.{IsSomeTable};
 ghost use Rattle.fip_tables.specs.Stream.{Fed};
-ghost use Rattle.fip_making.specs.Refusals.{IsOfCapsule, IsPackageStop, IsOfSource, Unstarved};
-ghost use Rattle.fip_making.specs.Seen.{AsTold, FedSome, GivenToIn, ReadsGiven, ReadsOne};
-ghost use Rattle.fip_making.specs.Answers.{AsksNothing, Gives, IsLate};
+ghost use Rattle.fip_making.specs.Stops.{IsOfCapsule, IsPackageStop, IsOfSource, Unstarved, IsLate};
+ghost use Rattle.fip_making.specs.Answers.{AsTold, FedSome, GivenToIn, ReadsGiven, ReadsOne, AsksNothing, Gives};
 ghost use Rattle.fip_making.specs.Values.{StopsInTime, and_then, capsule_in, given_table, size_in, sized_table, source_limit, IsTableOfSome};
 ghost use Rattle.fip_making.specs.declared.stops.Stop.TheVariants as stop;
 

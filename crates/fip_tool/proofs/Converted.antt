@@ -16,12 +16,11 @@ use Rattle.fip_tables.proofs.Again.{passed-is-read}
 use Rattle.capsule_tables.specs.Making.{IsCapsuleOf, capsule_bytes, make_fault}
 use Rattle.capsule_tables.proofs.{ReadAgain.made-is-read, Within.is-read, Within.no-flags, Within.types-sixteen}
 use Rattle.fip_words.specs.Order.{FipAsked, info_of_source, capsule, repackage}
-use Rattle.fip_tool.specs.{Converted.Converts, Converted.IsConverted, Tool.outcome_of, Tool.puts}
+use Rattle.fip_tool.specs.{Converted.Converts, Converted.IsConverted, Lines.capsule_line, Lines.packed_line, Tool.outcome_of, Tool.puts}
 use Rattle.fip_tool.specs.Steps.{Are, Did, Makes, Refuses, CommandStep, outcome_by, with_file, with_steps}
-use Rattle.fip_making.specs.Values.{and_then, capsule_value, enclose_value, kept_part, pack_value, repackage_value, table_or, there, unless_fault}
+use Rattle.fip_making.specs.Values.{and_then, capsule_value, enclose_value, kept_part, pack_value, repackage_value, or_stop, there, unless}
 use Rattle.fip_making.specs.declared.stops.Stop.{Stop}
 use Rattle.fip_making.specs.declared.stops.Stop.TheVariants as stop
-use Rattle.fip_tool.specs.declared.lines.Format.TheVariants as format
 
 -- ---- the parts of entries
 
@@ -79,16 +78,16 @@ record IsOfTable {F X : Type 0} (read : List ℕ → Result Toc F) (o : Option (
   value : f (bytes, toc) ≡ Ok made
 
 from-table : {F X : Type 0} (read : List ℕ → Result Toc F) (stopped : F → Stop) (o : Option (List ℕ)) (f : List ℕ × Toc → Result X Stop) (made : X)
-    → and_then (and_then (there o) (λ bytes. and_then (table_or stopped (read bytes)) (λ t. Ok (bytes, t)))) f ≡ Ok made → IsOfTable read o f made
+    → and_then (and_then (there o) (λ bytes. and_then (or_stop stopped (read bytes)) (λ t. Ok (bytes, t)))) f ≡ Ok made → IsOfTable read o f made
 from-table read stopped None f made h = cc
 from-table {F = F} {X = X} read stopped (Some bytes) f made h = by-table (read bytes) refl h
   where
-    by-table : (r : Result Toc F) → read bytes ≡ r → and_then (and_then (table_or stopped r) (λ t. Ok (bytes, t))) f ≡ Ok made → IsOfTable read (Some bytes) f made
+    by-table : (r : Result Toc F) → read bytes ≡ r → and_then (and_then (or_stop stopped r) (λ t. Ok (bytes, t))) f ≡ Ok made → IsOfTable read (Some bytes) f made
     by-table (Err s) is h = cc
     by-table (Ok toc) is h = record { bytes = bytes; toc = toc; is = refl; table = is; value = h }
 
 -- what was made had no fault
-fault-none : {X : Type 0} (o : Option PackFault) (x made : X) → unless_fault o x ≡ Ok made → (o ≡ None) × (made ≡ x)
+fault-none : {X : Type 0} (o : Option PackFault) (x made : X) → unless stop.NotPacked o (Ok x) ≡ Ok made → (o ≡ None) × (made ≡ x)
 fault-none None x made e = (refl, cc)
 fault-none (Some f) x made e = absurd cc
 
@@ -105,10 +104,8 @@ module _ (files : Directory) (now : Option Directory) (from out : List ℕ) (mad
     is = is;
     given = (given, table);
     made = (subst (λ (l : List ℕ). Tells now out l) same (file-there out made.1 files now are), again);
-    keeps = record {
-      types = types ∙ map-map (kept_part old) (λ (p : Part). p.guid) (λ (e : Entry). e.guid) was.entries (λ e. refl);
-      payloads = payloads ∙ map-map (kept_part old) (λ (p : Part). p.bytes) (payload old) was.entries (λ e. refl);
-    };
+    types = types ∙ map-map (kept_part old) (λ (p : Part). p.guid) (λ (e : Entry). e.guid) was.entries (λ e. refl);
+    payloads = payloads ∙ map-map (kept_part old) (λ (p : Part). p.bytes) (payload old) was.entries (λ e. refl);
   }
 
   capsule-kept : capsule_value files from ≡ Ok made → IsConverted toc_of capsule_of files now from out
@@ -139,9 +136,9 @@ module _ (files : Directory) (now : Option Directory) (from out : List ℕ) (mad
 pub converted : (a : Option FipAsked) (files : Directory) (now : Option Directory) (was text : Option (List ℕ)) (rose spoiled sink-rose : Type 0)
     → (a ≢ Some info_of_source → Did (outcome_of a files) files now was text rose spoiled sink-rose (Ok tt)) → Converts a files now
 converted (Some (capsule from out)) files now was text rose spoiled sink-rose h =
-    let d = done-has (puts format.Capsule out) (capsule_value files from) files now was text rose spoiled sink-rose (h (λ e. cc)) in
+    let d = done-has (puts capsule_line out) (capsule_value files from) files now was text rose spoiled sink-rose (h (λ e. cc)) in
     capsule-kept files now from out d.0 d.2 d.1
 converted (Some (repackage a from out)) files now was text rose spoiled sink-rose h =
-    let d = done-has (puts format.Package out) (repackage_value files a from) files now was text rose spoiled sink-rose (h (λ e. cc)) in
+    let d = done-has (puts packed_line out) (repackage_value files a from) files now was text rose spoiled sink-rose (h (λ e. cc)) in
     package-kept files now from out d.0 d.2 a d.1
 converted a files now was text rose spoiled sink-rose h = tt

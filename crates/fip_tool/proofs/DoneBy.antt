@@ -1,23 +1,24 @@
 -- What is done for what the words ask for, from what a command did.
-use Rattle.std.proofs.Common.{◌≡◌, ◌≤◌, ℕ, List, Some, Result, Err, ap, arith, refl, subst, sym, ◌∙◌, inl, inr, [], Option, None}
-use Rattle.std.specs.Prelude.{IfErr, IsTrue}
-use Rattle.base_core.specs.Counts.{Rose}
+use Rattle.std.proofs.Common.{◌≡◌, ◌≢◌, ℕ, List, ◌∷◌, Some, Result, Ok, Err, ap, arith, refl, subst, sym, ◌∙◌, inl, inr, [], Option, None}
+use Rattle.std.proofs.lemmas.Result.{IfErr-weaker}
+use Rattle.std.specs.Prelude.{IfErr, IfOk, IsTrue}
 use Rattle.fip_words.specs.Order.{FipAsked, info_of_source}
-use Rattle.host_io.specs.{Access.Access, Contents.Directory, declared.writes.Writes.Writes}
+use Rattle.host_io.specs.{Access.Access, Contents.Directory, Joined.AsksNoPiece, declared.writes.Writes.Writes}
+use Rattle.host_io.specs.Access as way
 use Rattle.host_io.specs.declared.files.Files as files
 use Rattle.host_io.specs.declared.sink.Sink as sink
-use Rattle.fip_tool.specs.{Names.IsUnneeded, Names.IsUnnamedBy, Names.MayRefuse, Said.IsMadeLine, Said.IsTexts, Seen.DidIn}
-use Rattle.fip_tool.specs.{Seen.DidSince, Seen.WroteIn, Seen.WroteForIn, Steps.CommandPlan, Steps.outcome_by, Tool.outcome_of}
-use Rattle.fip_tool.specs.{Tool.puts, Tool.asks_files, Wrote.WroteFor, declared.lines.Format.Format}
+use Rattle.fip_tool.specs.{Names.IsUnneeded, Names.IsUnnamedBy, Names.MayRefuse, Wrote.IsTexts, Done.DidIn}
+use Rattle.fip_tool.specs.{Done.WroteIn, Done.WroteForIn, Steps.CommandPlan, Steps.Makes, Steps.outcome_by, Tool.outcome_of}
+use Rattle.fip_tool.specs.{Lines.made_line, Tool.puts, Tool.asks_files, Wrote.WroteFor, declared.lines.Format.Format}
 use Rattle.fip_tool.specs.Done.{DoneWithFiles, DoneWithSource, PutsMade, RefusesAlone, WritesTexts, CommandDone}
-use Rattle.fip_making.specs.{Stops.exit_status, Payloads.made_by, Seen.AsTold, Seen.ReadsFilesAlone, Answers.Gives}
-use Rattle.fip_making.specs.{Answers.IsLate, declared.made.Made.Made, declared.stops.Stop.Stop}
+use Rattle.fip_making.specs.{Stops.exit_status, Payloads.HasNoPieceOf, Payloads.made_by, Answers.AsTold, Answers.ReadsFilesAlone}
+use Rattle.fip_making.specs.{Stops.IsLate, declared.made.Made.Made, declared.stops.Stop.Stop}
 use Rattle.fip_making.specs.declared.stops.Stop.TheVariants as stop
-use Rattle.fip_tool.proofs.{Did.did-later, Did.are-told, WritingLemmas.tears-since}
+use Rattle.fip_tool.proofs.{Did.are-told, Did.made-steps, Did.refused, WritingLemmas.tears-since}
 use Rattle.fip_tool.proofs.Faults.{faults-as, faults-of, still, faults-none}
-use Rattle.fip_tool.proofs.Refusing.{late-alone, made-alone, made-may, memory-may, usage-unasked}
-use Rattle.fip_tool.proofs.WroteLemmas.{wrote-as, wrote-none}
-use Rattle.fip_making.proofs.{Refusing.if-err-all, Refusing.if-err-as, Refusing.err-same, Tables.either-rose, SourceLemmas.nothing-read}
+use Rattle.fip_tool.proofs.Refusing.{late-alone, memory-may, usage-unasked}
+use Rattle.fip_tool.proofs.WroteLemmas.{texts-behind, wrote-none}
+use Rattle.fip_making.proofs.{Refusing.if-err-all, Refusing.err-same, Tables.rose-from, SourceLemmas.nothing-read}
 use Rattle.std.proofs.KnownBytes.{Appends-nil, Consumes-nil}
 use Rattle.std.proofs.lemmas.Bool.{false≢true}
 use Rattle.host_io.proofs.Once.{once-none}
@@ -29,17 +30,17 @@ module _ {H O : Type 0} {h : files.Ghosts H} {o : sink.Ghosts O} {one : FipAsked
   -- a stop before anything was done
   pub done-unread : {X : Type 0} {IsOther : Access → Type 0} {IsOwn : Stop → Type 0} {before after : H} {old : O} (s : Stop)
       → ReadsFilesAlone {X = X} h IsOther IsOwn before after (Err s) → ((access : Access) → IsUnnamedBy (Some one) access → IsOther access)
-      → ((access : Access) → IsUnneeded (Some one) (exit_status s) access → IsOther access)
+      → RefusesAlone h (Some one) before after (exit_status s)
       → ((told : Directory) → h.contents before ≡ Some told → DidIn h o (outcome_of (Some one) told) told before after old old (Err s))
       → MayRefuse (Some one) s → DoneWithFiles h o ⊥ (Some one) (Err s) before after old old
-  done-unread {before = before} {old = old} s reads unnamed unneeded did may = record {
+  done-unread {before = before} {old = old} s reads unnamed alone did may = record {
     told = λ told e other. did told e;
     wrote = subst (λ (w : Writes). WroteFor (Some one) (o.taken old) (o.taken old) (h.writes before).done w.done (Err s)) (sym reads.files.unwritten) (wrote-none (Some one) (o.taken old) (h.writes before).done s (λ e. reads.only.sink (err-same e)));
     file_count = faults-as (faults-of reads.only);
     cause = λ e none. let same : s ≡ stop.FileFault = cc in inl (reads.only.cause (err-same same) none);
     refusals = may;
     spares = λ access other. reads.files.spares access (unnamed access other);
-    alone = λ refuses access other. reads.files.spares access (unneeded access other);
+    alone = alone;
     later = omega arith;
     sink_count = still _ s (λ e. reads.only.sink (err-same e));
   }
@@ -54,7 +55,7 @@ module _ {H O : Type 0} {h : files.Ghosts H} {o : sink.Ghosts O} {one : FipAsked
     wrote = writes put.wrote;
     file_count = put.file_count;
     cause = λ e none. inl (put.cause e);
-    refusals = if-err-as result IsLate (MayRefuse (Some one)) late put.late;
+    refusals = IfErr-weaker result IsLate (MayRefuse (Some one)) late put.late;
     spares = spares;
     alone = late-alone result (λ s. (access : Access) → IsUnneeded (Some one) (exit_status s) access → h.spares before after access) put.late;
     later = put.later_sink;
@@ -62,30 +63,29 @@ module _ {H O : Type 0} {h : files.Ghosts H} {o : sink.Ghosts O} {one : FipAsked
   }
 
   -- what was made was put into a file, and its line was printed
-  pub done-made : {IsOther : Access → Type 0} {IsOwn : Stop → Type 0} {made : Result Made Stop} {result : Result (Unit {0}) Stop} {before mid after : H} {old new : O} (format : Format) (out : List ℕ) (value : Directory → Result (ℕ × List ℕ) Stop)
-      → ((told : Directory) → outcome_of (Some one) told ≡ outcome_by (puts format out) (value told)) → ((texts : List (List ℕ)) → IsMadeLine format made texts → IsTexts (Some one) texts)
-      → (WroteIn h o (IsTexts (Some one)) before after old new result → WroteForIn h o (Some one) before after old new result)
-      → ((s : Stop) → IsLate s → MayRefuse (Some one) s)
+  pub done-made : {IsOther : Access → Type 0} {IsOwn : Stop → Type 0} {result : Result (Unit {0}) Stop} {before mid after : H} {old new : O} (made : Result Made Stop) (format : Format) (out : List ℕ) (value : Directory → Result (ℕ × List ℕ) Stop)
+      → ((told : Directory) → outcome_of (Some one) told ≡ outcome_by (puts (made_line format) out) (value told)) → IfOk made (λ m. IsTexts (Some one) (made_line format m.count m.frame.size ∷ []))
+      → (WroteIn h o (IsTexts (Some one)) before after old new result → WroteForIn h o (Some one) before after old new result) → ((s : Stop) → IsLate s → MayRefuse (Some one) s)
       → ReadsFilesAlone h IsOther IsOwn before mid made → ((s : Stop) → IsOwn s → MayRefuse (Some one) s) → AsTold h made_by value before mid made
-      → ((told : Directory) (value : Result (ℕ × List ℕ) Stop) (count : ℕ) → h.contents mid ≡ Some told → count ≤ h.faults mid → Gives (made_by told) (Rose count (h.faults mid)) value made
-      → DidSince h o count (outcome_by (puts format out) value) told mid after old new result)
-      → PutsMade h o format made result mid after old new
-      → ((access : Access) → IsUnnamedBy (Some one) access → h.spares before after access)
-      → IfErr made (λ s. RefusesAlone h (Some one) before mid (exit_status s))
+      → ((told : Directory) → h.contents mid ≡ Some told → IfOk made (λ m. DidIn h o (Makes (puts (made_line format) out (made_by told m))) told mid after old new result))
+      → PutsMade h o format made result mid after old new → IfOk made (HasNoPieceOf IsOther)
+      → ((access : Access) → access ≢ way.Makes out → IfOk made (λ m. AsksNoPiece m.pieces.items access) → h.spares mid after access)
+      → ((access : Access) → h.spares before mid access → h.spares mid after access → h.spares before after access)
+      → ((access : Access) → IsUnnamedBy (Some one) access → IsOther access × (access ≢ way.Makes out)) → IfErr made (λ s. RefusesAlone h (Some one) before mid (exit_status s))
       → DoneWithFiles h o ⊥ (Some one) result before after old new
-  done-made {IsOwn = IsOwn} {made = made} {result = result} {before = before} {mid = mid} {after = after} {old = old} {new = new} format out value outcome texts writes late reads turns gives did put spares alone = record {
-    told = λ told e other.
-        subst (λ (all : CommandPlan). DidIn h o all told before after old new result) (sym (outcome told))
-        (did-later _ told _ _ _ _ _ _ _ _ result (λ r. r) (λ r. tears-since (h.writes after) reads.files.unwritten r) (did told (value told) (h.faults before) (reads.only.same ∙ e) reads.only.later (gives told e)));
-    wrote = writes (wrote-as (IsMadeLine format made) (IsTexts (Some one)) (λ n. n) _ _ _ _ _ result texts (ap (λ (w : Writes). w.done) reads.files.unwritten) (put.wrote reads.only.sink));
-    file_count = put.file_count (h.faults before) (faults-of reads.only);
-    cause = λ e none. inl (either-rose _ _ _ reads.only.later put.later (λ failed. reads.only.cause failed none) (put.cause e));
-    refusals = made-may made result (MayRefuse (Some one)) late (if-err-as made IsOwn (MayRefuse (Some one)) turns reads.refusals) put.refusals;
-    spares = spares;
-    alone = made-alone made result mid after (λ (f : H) (s : Stop). (access : Access) → IsUnneeded (Some one) (exit_status s) access → h.spares before f access) put.refusals put.kept alone;
-    later = put.later_sink;
-    sink_count = put.sink_count reads.only.sink;
-  }
+  done-made {result = result} {before = before} {after = after} {old = old} {new = new} (Ok m) format out value outcome texts writes late reads turns gives did put pieces spares joins named alone =
+      done-texts (texts-behind (λ all. all ≡ made_line format m.count m.frame.size ∷ []) (IsTexts (Some one)) (λ all t. subst (IsTexts (Some one)) (sym t) texts) reads.only.quiet reads.files.unwritten put) writes late
+      (λ told e.
+      subst (λ (plan : CommandPlan). DidIn h o plan told before after old new result) (sym (outcome told))
+      (made-steps (puts (made_line format) out) (value told) (made_by told m) told _ _ _ _ _ _ _ _ result (gives told e) (λ r. rose-from _ _ _ reads.files.later r)
+      (λ r. tears-since (h.writes after) reads.files.unwritten r) (did told (reads.files.same ∙ e))))
+      (λ access other. let known = named access other in joins access (reads.files.spares access known.0) (spares access known.1 (pieces access known.0)))
+  done-made {before = before} {mid = mid} {old = old} (Err s) format out value outcome texts writes late reads turns gives did put pieces spares joins named alone =
+      rw (put.0, put.1, put.2) (done-unread s reads (λ access other. (named access other).0) alone
+      (λ told e.
+      subst (λ (plan : CommandPlan). DidIn h o plan told before mid old old (Err s)) (sym (outcome told))
+      (refused (puts (made_line format) out) (made_by told) (value told) told _ _ _ _ _ _ s (gives told e) (reads.files.same ∙ e) refl))
+      (turns s reads.refusals))
 
 -- ---- what is done for what the words ask for, from what a command did
 

@@ -2,7 +2,7 @@
 use Rattle.std.proofs.Common.{◌≡◌, ◌≢◌, ℕ, refl, List, Option, Some, Result, Ok, Err, arith}
 use Rattle.fip_tool.specs.Steps.{sink_failed, Did, PrintedText, outcome_by, FaultsOnce}
 use Rattle.fip_tool.specs.Tool.{IsReadFor, given_value, no_files, prints}
-use Rattle.fip_making.specs.{declared.stops.Stop.Stop}
+use Rattle.fip_making.specs.declared.stops.Stop.{Stop}
 use Rattle.fip_making.specs.Answers.{source_failures, NoneFailed, ReadsOnly}
 use Rattle.fip_making.specs.declared.stops.Stop.TheVariants as stop
 use Rattle.std.specs.Io.KnownBytes.{Consumes, IsAtEnd}
@@ -56,7 +56,7 @@ module _ {X : Type 0} {before after : ℕ} {result : Result X Stop} where
   pub faults-then : {between : ℕ} → between ≡ before → FaultsOnce between after result → FaultsOnce before after result
   faults-then {between = between} same faults = record { once = omega (arith, same, faults.once); quiet = quiet-then result before between after same faults.quiet }
 
-  pub faults-of : {told now : Option Directory} → ReadsOnly told now before after result → FaultsOnce before after result
+  pub faults-of : {told : Option Directory} → ReadsOnly told before after result → FaultsOnce before after result
   faults-of reads = record { once = reads.once; quiet = reads.quiet }
 
 pub faults-as : {X Y : Type 0} {before after : ℕ} {s : Stop} → FaultsOnce {X = X} before after (Err s) → FaultsOnce {X = Y} before after (Err s)

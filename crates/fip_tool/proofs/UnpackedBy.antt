@@ -8,7 +8,7 @@ use Rattle.host_io.specs.{Access.Access, Access.Makes, Contents.Directory}
 use Rattle.host_io.specs.Access as way
 use Rattle.host_io.specs.declared.files.Files as files
 use Rattle.host_io.specs.declared.sink.Sink as sink
-use Rattle.fip_tool.specs.{Lines.unpacked_line, Lines.unpacked_name, Done.WritesTexts, Done.Unpacked, Seen.DidIn, Steps.Makes}
+use Rattle.fip_tool.specs.{Lines.unpacked_line, Lines.unpacked_name, Done.WritesTexts, Done.Unpacked, Done.DidIn, Steps.Makes}
 use Rattle.fip_tool.specs.{Steps.Prints, Steps.MayTear, Steps.NoneUnwritten, Tool.unpack_steps}
 use Rattle.fip_tool.specs.Steps as step
 use Rattle.fip_making.specs.declared.stops.Stop.{Stop}
@@ -55,7 +55,7 @@ module _ {H O : Type 0} {h : files.Ghosts H} {o : sink.Ghosts O} where
       → (h.contents before ≡ None → h.contents after ≡ None)
       → OnOk result (NoneUnwritten (h.writes before) (h.writes after))
       → WritesTexts h o (λ texts. texts ≡ line ∷ []) result before after old new
-      → ((access : Access) → access ≢ Makes name → h.spares before after access)
+      → ((access : Access) → access ≢ way.Asks from → access ≢ Makes name → h.spares before after access)
       → Unpacked h o from prefix entry result before after old new
   made {from = from} {prefix = prefix} {entry = entry} {result = result} guid name shown line out one named seen whole lined differs did silent unspoiled put spares =
       let shown-is : shown ≡ unpacked_name prefix entry.guid = seen ∙ one in
@@ -66,5 +66,5 @@ module _ {H O : Type 0} {h : files.Ghosts H} {o : sink.Ghosts O} where
         silent = silent;
         unspoiled = unspoiled;
         texts = texts-behind (λ texts. texts ≡ line ∷ []) (λ texts. texts ≡ unpacked_line prefix entry ∷ []) (λ texts t. t ∙ ap (λ (l : List ℕ). l ∷ []) line-of) refl refl put;
-        spares = λ access asked other. spares access (λ is. other (is ∙ ap way.Makes (named ∙ one)));
+        spares = λ access asked other. spares access asked (λ is. other (is ∙ ap way.Makes (named ∙ one)));
       }

@@ -1,10 +1,9 @@
 -- What a writing and a line leave.
-use Rattle.std.proofs.Common.{◌≡◌, sym, subst, ◌∙◌, ℕ, List, [], ◌∷◌, Option, Result, Ok, Err, ◌≤◌, length, refl, ap, append-nil}
-use Rattle.fip_tool.specs.{Lines.made_line, Lines.manifest_line, Tool.puts, Tool.writes_manifest, declared.lines.Format.Format}
+use Rattle.std.proofs.Common.{◌≡◌, sym, subst, ◌∙◌, ℕ, List, [], ◌∷◌, Option, Result, Ok, Err, length, refl, ap, append-nil}
+use Rattle.fip_tool.specs.Tool.{puts}
 use Rattle.fip_tool.specs.Steps.{MayTear, NoneUnwritten, Makes, CommandStep, Writes, Prints, Are, Did, PrintedText, outcome_by, with_file}
-use Rattle.fip_making.proofs.Tables.{rose-still, rose-from}
+use Rattle.fip_making.proofs.Tables.{rose-still}
 use Rattle.std.specs.Io.KnownBytes.{Appends}
-use Rattle.base_core.specs.Counts.{Rose}
 use Rattle.host_io.specs.{Contents.Directory, declared.joining.Piece.Piece}
 use Rattle.host_io.specs.declared.writes.Writes as count
 use Rattle.fip_making.specs.{Payloads.joined_pieces, Payloads.made_bytes, declared.made.Made.Made, declared.stops.Stop.Stop}
@@ -29,16 +28,6 @@ none-unwritten before mid after first next = (next.0 ∙ first.0, next.1 ∙ fir
 pub joined-made : (files : Directory) (m : Made) (frame : List ℕ) (pieces : List Piece) → frame ≡ m.frame.bytes.items → pieces ≡ m.pieces.items → joined_pieces files frame pieces ≡ made_bytes files m
 joined-made files m frame pieces f p = ap (λ (l : List ℕ). joined_pieces files l pieces) f ∙ ap (joined_pieces files m.frame.bytes.items) p
 
--- the file and the line of what was made
-pub made-put : (format : Format) (files : Directory) (out : List ℕ) (value : Result (ℕ × List ℕ) Stop) (n : ℕ) (bytes laid line : List ℕ) (now : Option Directory) (was text : Option (List ℕ)) (a b c : ℕ) (k s t : count.Writes) (sink-rose : Type 0)
-    (r : Result (Unit {0}) Stop) → value ≡ Ok (n, bytes) → laid ≡ bytes → line ≡ made_line format n (length bytes) → a ≤ b → k ≡ s
-    → Did (Makes (Writes out laid ∷ Prints line ∷ [])) files now was text (Rose b c) (MayTear s t) sink-rose r
-    → Did (outcome_by (puts format out) value) files now was text (Rose a c) (MayTear k t) sink-rose r
-made-put format files out value n bytes laid line now was text a b c k s t sink-rose r v is lined le kept did =
-    let steps : Writes out laid ∷ Prints line ∷ [] ≡ puts format out (n, bytes) = ap (λ (l : List ℕ). Writes out l ∷ Prints line ∷ []) is ∙ ap (λ (l : List ℕ). Writes out bytes ∷ Prints l ∷ []) lined in
-    made-steps (puts format out) value (n, bytes) files now was text (Rose b c) (Rose a c) (MayTear s t) (MayTear k t) sink-rose r v (rose-from a b c le) (tears-since t (sym kept))
-    (subst (λ (l : List CommandStep). Did (Makes l) files now was text (Rose b c) (MayTear s t) sink-rose r) steps did)
-
 pub then-printed : (files : Directory) (now : Option Directory) (was text : Option (List ℕ)) (files-rose spoiled sink-rose : Type 0) (name bytes line : List ℕ) (r : Result (Unit {0}) Stop)
     → Are now (with_file name bytes files) → PrintedText was text sink-rose line r → Did (Makes (Writes name bytes ∷ Prints line ∷ [])) files now was text files-rose spoiled sink-rose r
 then-printed files now was text files-rose spoiled sink-rose name bytes line (Ok u) w p = (refl, w, subst (Appends was text) (sym (append-nil line)) p)
@@ -47,13 +36,13 @@ then-printed files now was text files-rose spoiled sink-rose name bytes line (Er
 then-printed files now was text files-rose spoiled sink-rose name bytes line (Err stop.NoMemory) w p = (1, w, appends-same was text p)
 then-printed files now was text files-rose spoiled sink-rose name bytes line (Err s) w p = absurd p
 
--- the file and the line of a manifest
-pub manifest-written : (files : Directory) (out : List ℕ) (security : ℕ) (value : Result (ℕ × List ℕ) Stop) (made : ℕ × List ℕ) (bytes line : List ℕ) (now : Option Directory)
-    (was text : Option (List ℕ)) (rose late spoiled spoiled-late sink-rose : Type 0) (r : Result (Unit {0}) Stop) → value ≡ Ok made → bytes ≡ made.1 → line ≡ manifest_line made.0 (length made.1) security
+-- the file and the line of what was made
+pub made-put : (line-of : ℕ → ℕ → List ℕ) (files : Directory) (out : List ℕ) (value : Result (ℕ × List ℕ) Stop) (made : ℕ × List ℕ) (bytes line : List ℕ) (now : Option Directory)
+    (was text : Option (List ℕ)) (rose late spoiled spoiled-late sink-rose : Type 0) (r : Result (Unit {0}) Stop) → value ≡ Ok made → bytes ≡ made.1 → line ≡ line-of made.0 (length made.1)
     → (rose → late) → (spoiled → spoiled-late) → Did (Makes (Writes out bytes ∷ Prints line ∷ [])) files now was text rose spoiled sink-rose r
-    → Did (outcome_by (writes_manifest out security) value) files now was text late spoiled-late sink-rose r
-manifest-written files out security value made bytes line now was text rose late spoiled spoiled-late sink-rose r v same said rises spoils did =
-    let steps : Writes out bytes ∷ Prints line ∷ [] ≡ writes_manifest out security made =
+    → Did (outcome_by (puts line-of out) value) files now was text late spoiled-late sink-rose r
+made-put line-of files out value made bytes line now was text rose late spoiled spoiled-late sink-rose r v same said rises spoils did =
+    let steps : Writes out bytes ∷ Prints line ∷ [] ≡ puts line-of out made =
     ap (λ (l : List ℕ). Writes out l ∷ Prints line ∷ []) same ∙ ap (λ (l : List ℕ). Writes out made.1 ∷ Prints l ∷ []) said in
-    made-steps (writes_manifest out security) value made files now was text rose late spoiled spoiled-late sink-rose r v rises spoils
+    made-steps (puts line-of out) value made files now was text rose late spoiled spoiled-late sink-rose r v rises spoils
     (subst (λ (steps : List CommandStep). Did (Makes steps) files now was text rose spoiled sink-rose r) steps did)

@@ -1,13 +1,14 @@
 -- What is written, and printed behind it.
-use Rattle.std.proofs.Common.{◌≡◌, ◌∙◌, ◌+◌, ◌≤◌, ◌⊎◌, inl, inr, ℕ, zero, suc, List, [], ◌∷◌, ◌++◌, Option, Result, Ok, Err, length, take, drop, ap, arith, refl, sym, subst, length-append, ◌≢◌}
+use Rattle.std.proofs.Common.{◌≡◌, ◌∙◌, ◌+◌, ◌≤◌, inl, inr, ℕ, zero, suc, List, [], ◌∷◌, ◌++◌, Option, Result, Ok, Err, length, take, drop, ap, arith, refl, sym, subst, length-append, ◌≢◌}
+use Rattle.std.specs.List.{concat}
 use Rattle.std.specs.Io.KnownBytes.{Appends}
 use Rattle.std.proofs.KnownBytes.{Appends-nil, Appends-trans}
 use Rattle.host_io.specs.{Calls.raised, declared.writes.Writes.Writes}
 use Rattle.fip_words.specs.Order.{FipAsked}
-use Rattle.fip_tool.specs.{Said.joined_texts, Said.IsMadeLine, Steps.PrintedText, Steps.FaultsOnce, Steps.sink_failures}
-use Rattle.fip_tool.specs.{Done.PutsMade, Done.WritesTexts, Lines.made_line, declared.lines.Format.Format, Seen.PrintedIn}
+use Rattle.fip_tool.specs.{Steps.PrintedText, Steps.FaultsOnce, Steps.sink_failures}
+use Rattle.fip_tool.specs.{Done.WritesTexts, Done.PrintedIn}
 use Rattle.fip_tool.specs.Wrote.{IsRestOfTexts, CommandWrote, WroteAll, WroteFor, WroteSome, files_ahead, raised_by}
-use Rattle.fip_making.specs.{Answers.IsLate, declared.stops.Stop.Stop, declared.made.Made.Made}
+use Rattle.fip_making.specs.{Stops.IsLate, declared.stops.Stop.Stop}
 use Rattle.fip_making.specs.declared.stops.Stop.TheVariants as stop
 use Rattle.fip_tool.proofs.Texts.{appends-same, back, front, joined-one}
 use Rattle.fip_tool.proofs.Faults.{faults-as, faults-none, faults-then, still}
@@ -15,7 +16,7 @@ use Rattle.std.specs.Prelude.{IfErr}
 use Rattle.base_core.specs.Counts.{Rose}
 use Rattle.host_io.specs.declared.files.Files as files
 use Rattle.host_io.specs.declared.sink.Sink as sink
-use Rattle.fip_making.proofs.{Refusing.if-err-as, Refusing.err-same, Tables.rose-still}
+use Rattle.fip_making.proofs.{Refusing.err-same, Tables.rose-still}
 
 -- ---- one file and its text
 
@@ -104,22 +105,22 @@ wrote-tail line after at text mid now s (inl none) = ([], nothing s none.0, none
 wrote-tail line after at text mid now s (inr (late, w)) =
     let none : w.printed ≡ 0 = omega (arith, w.left, ap length w.are) in
     let whole : drop w.printed w.texts ≡ line ∷ [] = ap (λ (n : ℕ). drop n w.texts) none ∙ w.are in
-    (w.rest, more s w.rest (subst (IsRestOfTexts s w.rest) whole w.rest_is), subst (λ (n : ℕ). Appends at text (joined_texts (take n w.texts) ++ w.rest)) none w.said)
+    (w.rest, more s w.rest (subst (IsRestOfTexts s w.rest) whole w.rest_is), subst (λ (n : ℕ). Appends at text (concat (take n w.texts) ++ w.rest)) none w.said)
   where
     more : (s : Stop) (rest : List ℕ) → IsRestOfTexts s rest (line ∷ []) → IsRestOfTexts s rest (line ∷ after)
     more stop.SinkFault rest h = h
     more s rest h = h
 
 -- a stop at one file, behind files whose texts were printed and before others
-pub wrote-behind : (before : List (List ℕ)) (line : List ℕ) (after all : List (List ℕ)) (was at text : Option (List ℕ)) (start mid now : ℕ) (s : Stop) → all ≡ before ++ (line ∷ after) → Appends was at (joined_texts before)
+pub wrote-behind : (before : List (List ℕ)) (line : List ℕ) (after all : List (List ℕ)) (was at text : Option (List ℕ)) (start mid now : ℕ) (s : Stop) → all ≡ before ++ (line ∷ after) → Appends was at (concat before)
     → mid ≡ raised_by (length before) start → IsLate s → CommandWrote (λ texts. texts ≡ line ∷ []) (λ n. n) at text mid now (Err s) → CommandWrote (λ texts. texts ≡ all) (λ n. n) was text start now (Err s)
 wrote-behind before line after all was at text start mid now s is so-far count late wrote = inr (late, go wrote)
   where
     tail : (rest : List ℕ) × IsRestOfTexts s rest (line ∷ after) × Appends at text rest
     tail = wrote-tail line after at text mid now s wrote
 
-    said : Appends was text (joined_texts (take (length before) all) ++ tail.0)
-    said = subst (λ (l : List (List ℕ)). Appends was text (joined_texts l ++ tail.0)) (sym (front before line after all is)) (Appends-trans was at text (joined_texts before) tail.0 so-far tail.2)
+    said : Appends was text (concat (take (length before) all) ++ tail.0)
+    said = subst (λ (l : List (List ℕ)). Appends was text (concat l ++ tail.0)) (sym (front before line after all is)) (Appends-trans was at text (concat before) tail.0 so-far tail.2)
 
     behind : (n : ℕ) → n ≤ files_ahead s → now ≡ raised_by n mid → WroteSome (λ texts. texts ≡ all) (λ n. n) s was text start now
     behind n few more = record {
@@ -162,21 +163,6 @@ module _ {H O : Type 0} {h : files.Ghosts H} {o : sink.Ghosts O} {before after :
   }
 
   module _ {result : Result (Unit {0}) Stop} {old new : O} where
-    -- the file of what was made, and its line
-    pub puts-texts : (format : Format) (made : Made) (line : List ℕ) → line ≡ made_line format made.count made.frame.size
-        → WritesTexts h o (λ texts. texts ≡ line ∷ []) result before after old new → PutsMade h o format (Ok made) result before after old new
-    puts-texts format made line is put = record {
-      file_count = λ count faults. faults-then faults.quiet put.file_count;
-      wrote = λ apart. wrote-as (λ texts. texts ≡ line ∷ []) (IsMadeLine format (Ok made)) (λ n. n) _ _ _ _ _ result (λ texts e. e ∙ ap (λ l. l ∷ []) is) refl put.wrote;
-      cause = λ e. inr (put.cause e);
-      refusals = if-err-as result IsLate (λ s. (◌≡◌ {A = Result Made Stop} (Ok made) (Err s)) ⊎ IsLate s) (λ s late. inr late) put.late;
-      kept = tt;
-      sink_kept = tt;
-      later = put.later;
-      later_sink = put.later_sink;
-      sink_count = λ apart. put.sink_count;
-    }
-
     -- the file was written, and then its line was printed
     pub one-text : (line : List ℕ) → h.faults after ≡ h.faults before → (h.writes after).done ≡ raised (h.writes before).done → PrintedIn o line old new result
         → IfErr result IsLate → o.faults old ≤ o.faults new → o.faults new ≡ sink_failures result (o.faults old)

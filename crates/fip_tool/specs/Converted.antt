@@ -5,12 +5,8 @@ use Rattle.fwu_formats.specs.{Package.Toc, Package.payload, Package.toc_of, Caps
 use Rattle.fip_tables.specs.Files.{Tells}
 use Rattle.fip_words.specs.Order.{FipAsked, capsule, repackage}
 
--- the entries of one table are those of the other, in their order, by their types and their payloads
-pub record KeepsAll (old : List ℕ) (was : Toc) (new : List ℕ) (is : Toc) : Type 0 where
-  pub types : map (λ e. e.guid) is.entries ≡ map (λ e. e.guid) was.entries
-  pub payloads : map (payload new) is.entries ≡ map (payload old) was.entries
-
--- one file had a table by one reading, and the other has one by another reading, of which it keeps all
+-- One file had a table by one reading, and the other has one by another reading. Its entries are those of the first, in their
+-- order, by their types and their payloads.
 pub record IsConverted {F G : Type 0} (read : List ℕ → Result Toc F) (read_again : List ℕ → Result Toc G) (files : Directory)
     (now : Option Directory) (from out : List ℕ) : Type 0 where
   pub old : List ℕ
@@ -19,7 +15,8 @@ pub record IsConverted {F G : Type 0} (read : List ℕ → Result Toc F) (read_a
   pub is : Toc
   pub given : (files from ≡ Some old) × (read old ≡ Ok was)
   pub made : Tells now out new × (read_again new ≡ Ok is)
-  pub keeps : KeepsAll old was new is
+  pub types : map (λ e. e.guid) is.entries ≡ map (λ e. e.guid) was.entries
+  pub payloads : map (payload new) is.entries ≡ map (payload old) was.entries
 
 -- what a command that is a conversion has done
 abbrev pub Converts : Option FipAsked → Directory → Option Directory → Type 0

@@ -1,5 +1,5 @@
--- What is done for what the words ask for, by its result.
-use Rattle.std.specs.Prelude.{◌≡◌, ◌≢◌, ◌≤◌, ◌⊎◌, ◌∷◌, [], ℕ, List, Option, Some, None, Result, Err, IfErr, IsFalse, OnOk, false}
+-- What is done for what the words ask for, by its result, as files, a source and a sink tell it.
+use Rattle.std.specs.Prelude.{◌≡◌, ◌≢◌, ◌≤◌, ◌⊎◌, ◌∷◌, [], ℕ, List, Option, Some, None, Result, Ok, Err, IfErr, IsFalse, OnOk, false}
 use Rattle.base_core.specs.Counts.{Rose}
 use Rattle.fwu_formats.specs.Package.{Entry}
 use Rattle.fip_words.specs.{Order.FipAsked, Order.info_of_source, Values.is_unpacked}
@@ -7,14 +7,47 @@ use Rattle.host_io.specs.{Access.Access, Access.Asks, Access.Makes, Contents.Dir
 use Rattle.host_io.specs.declared.files.Files as files
 use Rattle.host_io.specs.declared.source.Source as source
 use Rattle.host_io.specs.declared.sink.Sink as sink
-use Rattle.fip_making.specs.{Stops.exit_status, declared.made.Made.Made, declared.stops.Stop.Stop}
-use Rattle.fip_making.specs.Answers.{IsLate, source_failures}
-use Rattle.fip_tool.specs.{Ends.EndsWithLine, Lines.unpacked_line, Lines.unpacked_name, Said.IsMadeLine, Wrote.WroteFor}
-use Rattle.fip_tool.specs.{Steps.FaultsOnce, Steps.Makes, Steps.NoneUnwritten, Steps.sink_failures, declared.lines.Format.Format}
-use Rattle.fip_tool.specs.Names.{IsRefusalStatus, IsUnneeded, IsUnnamedBy, MayRefuse}
-use Rattle.fip_tool.specs.Seen.{DidIn, ReadSourceIn, WroteForIn, WroteIn}
-use Rattle.fip_tool.specs.Tool.{asks_files, outcome_of, unpack_steps}
+use Rattle.fip_making.specs.{Answers.source_failures, Stops.IsLate, Stops.exit_status, Values.StopsInTime, declared.made.Made.Made}
+use Rattle.fip_making.specs.declared.stops.Stop.{Stop}
 use Rattle.fip_making.specs.declared.stops.Stop.TheVariants as stop
+use Rattle.fip_tool.specs.Lines.{EndsWithLine, made_line, unpacked_line, unpacked_name}
+use Rattle.fip_tool.specs.Names.{IsRefusalStatus, IsUnneeded, IsUnnamedBy, MayRefuse}
+use Rattle.fip_tool.specs.Steps.{CommandPlan, Did, FaultsOnce, Makes, MayTear, NoneUnwritten, PrintedText, outcome_by, sink_failures}
+use Rattle.fip_tool.specs.Tool.{IsReadFor, asks_files, given_value, no_files, outcome_of, prints, unpack_steps}
+use Rattle.fip_tool.specs.{Wrote.CommandWrote, Wrote.WroteFor, declared.lines.Format.Format}
+
+-- ---- as they tell it
+
+-- A word `DidIn` is `Did` with what those tell and count: it takes how their types tell it, and each of them before and after.
+
+abbrev pub PrintedIn : {O : Type 0} → sink.Ghosts O → List ℕ → O → O → Result (Unit {0}) Stop → Type 0
+PrintedIn o piece old new result = PrintedText (o.taken old) (o.taken new) (Rose (o.faults old) (o.faults new)) piece result
+
+abbrev pub DidIn : {H O : Type 0} → files.Ghosts H → sink.Ghosts O → CommandPlan → Directory → H → H → O → O
+    → Result (Unit {0}) Stop → Type 0
+DidIn h o outcome told files-old files-new old new result =
+    Did outcome told (h.contents files-new) (o.taken old) (o.taken new) (Rose (h.faults files-old) (h.faults files-new))
+    (MayTear (h.writes files-old) (h.writes files-new)) (Rose (o.faults old) (o.faults new)) result
+
+abbrev pub WroteIn : {H O : Type 0} → files.Ghosts H → sink.Ghosts O → (List (List ℕ) → Type 0) → H → H → O → O
+    → Result (Unit {0}) Stop → Type 0
+WroteIn h o T files-old files-new old new result =
+    CommandWrote T (λ n. n) (o.taken old) (o.taken new) (h.writes files-old).done (h.writes files-new).done result
+
+abbrev pub WroteForIn : {H O : Type 0} → files.Ghosts H → sink.Ghosts O → Option FipAsked → H → H → O → O
+    → Result (Unit {0}) Stop → Type 0
+WroteForIn h o asked files-old files-new old new result =
+    WroteFor asked (o.taken old) (o.taken new) (h.writes files-old).done (h.writes files-new).done result
+
+-- What was done of a listing of the source, by its result. What files tell stays.
+abbrev pub ReadSourceIn : {I O : Type 0} → source.Ghosts I → sink.Ghosts O → Option Directory → Option Directory → I → I → O → O
+    → Result (Unit {0}) Stop → Type 0
+ReadSourceIn i o told now source-old source-new old new result =
+    (given : List ℕ) × StopsInTime given × (now ≡ told) × IsReadFor result (i.left source-old) (i.left source-new) given
+    × Did (outcome_by prints (given_value given)) no_files (Some no_files) (o.taken old) (o.taken new)
+    (Rose (i.faults source-old) (i.faults source-new)) ⊥ (Rose (o.faults old) (o.faults new)) result
+
+-- ---- what is done
 
 -- a refusal with this status has made no file, and asked for none but those that it comes by
 abbrev pub RefusesAlone : {H : Type 0} → files.Ghosts H → Option FipAsked → H → H → ℕ → Type 0
@@ -63,7 +96,7 @@ pub record DoneWithFiles {H O : Type 0} (h : files.Ghosts H) (o : sink.Ghosts O)
       → Rose (h.faults files_before) (h.faults files_after) ⊎ source-rose
   -- each refusal is one of what was asked for
   pub refusals : IfErr result (MayRefuse asked)
-  -- no access is made that the words don't name; a piece of a file that is made is none
+  -- no access is made that the words don't name; a file in which a piece of a made one lies counts as asked for
   pub spares : (access : Access) → IsUnnamedBy asked access → h.spares files_before files_after access
   pub alone : IfErr result (λ s. RefusesAlone h asked files_before files_after (exit_status s))
   pub later : o.faults sink_before ≤ o.faults sink_after
@@ -83,21 +116,13 @@ pub record DoneWithSource {I O : Type 0} (i : source.Ghosts I) (o : sink.Ghosts 
   pub sink_count : o.faults sink_after ≡ sink_failures result (o.faults sink_before)
   pub refusals : IfErr result (MayRefuse (Some info_of_source))
 
--- What is done by the making of a file, with its line behind it, or a stop that came in place of what was to be made.
-pub record PutsMade {H O : Type 0} (h : files.Ghosts H) (o : sink.Ghosts O) (format : Format) (made : Result Made Stop)
-    (result : Result (Unit {0}) Stop) (files_before files_after : H) (sink_before sink_after : O) : Type 0 where
-  pub file_count : (before : ℕ) → FaultsOnce before (h.faults files_before) made → FaultsOnce before (h.faults files_after) result
-  pub wrote : (made ≡ Err stop.SinkFault → ⊥)
-      → WroteIn h o (IsMadeLine format made) files_before files_after sink_before sink_after result
-  pub cause : result ≡ Err stop.FileFault
-      → (made ≡ Err stop.FileFault) ⊎ Rose (h.faults files_before) (h.faults files_after)
-  pub refusals : IfErr result (λ s. (made ≡ Err s) ⊎ IsLate s)
-  -- a stop that came before leaves the files and the sink as they were
-  pub kept : IfErr made (λ s. files_after ≡ files_before)
-  pub sink_kept : IfErr made (λ s. sink_after ≡ sink_before)
-  pub later : h.faults files_before ≤ h.faults files_after
-  pub later_sink : o.faults sink_before ≤ o.faults sink_after
-  pub sink_count : (made ≡ Err stop.SinkFault → ⊥) → o.faults sink_after ≡ sink_failures result (o.faults sink_before)
+-- What is done by the making of a file, with its line behind it. A stop that came in place of what was to be made is handed on, and
+-- nothing is done.
+abbrev pub PutsMade : {H O : Type 0} → files.Ghosts H → sink.Ghosts O → Format → Result Made Stop → Result (Unit {0}) Stop
+    → H → H → O → O → Type 0
+PutsMade h o format (Ok made) result files-old files-new old new =
+    WritesTexts h o (λ texts. texts ≡ made_line format made.count made.frame.size ∷ []) result files-old files-new old new
+PutsMade h o format (Err s) result files-old files-new old new = (result ≡ Err s) × (files-new ≡ files-old) × (new ≡ old)
 
 -- As DoneWithFiles, with what is seen of the source.
 pub record CommandDone {H I O : Type 0} (h : files.Ghosts H) (i : source.Ghosts I) (o : sink.Ghosts O)

@@ -1,10 +1,7 @@
 pub mod Steps
 pub mod Lines
 pub mod Tool
-pub mod Ends
-pub mod Said
 pub mod Wrote
-pub mod Seen
 pub mod Converted
 pub mod Done
 pub mod Names

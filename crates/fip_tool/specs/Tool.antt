@@ -7,12 +7,10 @@ use Rattle.host_io.specs.declared.writes.Writes as count
 use Rattle.fwu_formats.specs.Package.{Entry, payload, toc_of}
 use Rattle.fip_tables.specs.Answers.{decided}
 use Rattle.fip_words.specs.Order.{FipAsked, info, info_of_source, create, update, remove, unpack, manifest, capsule, repackage}
-use Rattle.fip_tool.specs.{Ends.EndsWithLine, declared.lines.Format.Format}
-use Rattle.fip_tool.specs.Lines.{info_text, made_line, manifest_line, unpacked_line, unpacked_name}
+use Rattle.fip_tool.specs.Lines.{EndsWithLine, capsule_line, info_text, manifest_line, packed_line, unpacked_line, unpacked_name}
 use Rattle.fip_tool.specs.Steps.{CommandPlan, Did, Makes, MayTear, Refuses, CommandStep, Writes, Prints, outcome_by}
-use Rattle.fip_tool.specs.declared.lines.Format.TheVariants as format
 use Rattle.fip_making.specs.declared.stops.Stop.{Stop}
-use Rattle.fip_making.specs.Values.{and_then, capsule_value, create_value, first_missing, given_table, has_type_among, manifest_value, package_read_in, remove_value, repackage_value, sized_table, unless_missing, update_value}
+use Rattle.fip_making.specs.Values.{and_then, capsule_value, create_value, first_missing, given_table, has_type_among, manifest_value, package_read_in, remove_value, repackage_value, sized_table, unless, update_value}
 use Rattle.fip_making.specs.declared.stops.Stop.TheVariants as stop
 
 -- ---- info
@@ -26,11 +24,11 @@ prints text = Prints text ∷ []
 unfoldable pub given_value : List ℕ → Result (List ℕ) Stop
 given_value given = and_then (given_table given) (λ t. Ok (info_text t.0 t.1))
 
--- ---- packages and capsules that are made
+-- ---- files that are made
 
--- the steps for a package or a capsule that was made
-abbrev pub puts : Format → List ℕ → ℕ × List ℕ → List CommandStep
-puts kind out made = Writes out made.1 ∷ Prints (made_line kind made.0 (length made.1)) ∷ []
+-- the steps for a file that was made, with the line for a count and a size
+abbrev pub puts : (ℕ → ℕ → List ℕ) → List ℕ → ℕ × List ℕ → List CommandStep
+puts line out made = Writes out made.1 ∷ Prints (line made.0 (length made.1)) ∷ []
 
 -- ---- payloads that are written
 
@@ -46,12 +44,8 @@ unpack_steps prefix bytes (e ∷ entries) =
 
 unfoldable pub unpack_value : Directory → List ℕ → List (List ℕ) → Result (List ℕ × List Entry) Stop
 unpack_value files from guids =
-    and_then (package_read_in files from) (λ p. unless_missing (first_missing p.1 guids) (Ok (p.0, chosen guids p.1.entries)))
-
--- ---- manifests
-
-abbrev pub writes_manifest : List ℕ → ℕ → ℕ × List ℕ → List CommandStep
-writes_manifest out security made = Writes out made.1 ∷ Prints (manifest_line made.0 (length made.1) security) ∷ []
+    and_then (package_read_in files from) (λ p. unless stop.NoSuchEntry (first_missing p.1 guids)
+    (Ok (p.0, chosen guids p.1.entries)))
 
 -- ---- commands
 
@@ -60,14 +54,14 @@ abbrev pub outcome_of : Option FipAsked → Directory → CommandPlan
 outcome_of None files = Refuses stop.Usage
 outcome_of (Some (info file)) files = outcome_by prints (info_value files file)
 outcome_of (Some info_of_source) files = Refuses stop.Usage
-outcome_of (Some (create align out parts)) files = outcome_by (puts format.Package out) (create_value files align parts)
-outcome_of (Some (update align from out parts)) files = outcome_by (puts format.Package out) (update_value files align from parts)
-outcome_of (Some (remove align from out names)) files = outcome_by (puts format.Package out) (remove_value files align from names)
+outcome_of (Some (create align out parts)) files = outcome_by (puts packed_line out) (create_value files align parts)
+outcome_of (Some (update align from out parts)) files = outcome_by (puts packed_line out) (update_value files align from parts)
+outcome_of (Some (remove align from out names)) files = outcome_by (puts packed_line out) (remove_value files align from names)
 outcome_of (Some (unpack from prefix names)) files = outcome_by (λ v. unpack_steps prefix v.0 v.1) (unpack_value files from names)
 outcome_of (Some (manifest out security rows)) files =
-    outcome_by (writes_manifest out security) (manifest_value files security rows)
-outcome_of (Some (capsule from out)) files = outcome_by (puts format.Capsule out) (capsule_value files from)
-outcome_of (Some (repackage align from out)) files = outcome_by (puts format.Package out) (repackage_value files align from)
+    outcome_by (puts (λ count size. manifest_line count size security) out) (manifest_value files security rows)
+outcome_of (Some (capsule from out)) files = outcome_by (puts capsule_line out) (capsule_value files from)
+outcome_of (Some (repackage align from out)) files = outcome_by (puts packed_line out) (repackage_value files align from)
 
 -- all but usage and a listing of the source ask for a file
 abbrev pub asks_files : Option FipAsked → Bool

@@ -1,8 +1,8 @@
 //! `info`: what a package has.
 ghost use Rattle.std.specs.Prelude.{IfOk, List, ℕ};
-ghost use Rattle.fip_making.specs.Refusals.{IsPackageStop};
-ghost use Rattle.fip_tool.specs.Said.{IsListing};
-ghost use Rattle.fip_making.specs.Seen.{AsTold, GivenToIn, ReadsGiven, ReadsOne};
+ghost use Rattle.fip_making.specs.Stops.{IsPackageStop};
+ghost use Rattle.fip_tool.specs.Wrote.{IsListing};
+ghost use Rattle.fip_making.specs.Answers.{AsTold, GivenToIn, ReadsGiven, ReadsOne};
 ghost use Rattle.fip_making.specs.Values.{StopsInTime};
 ghost use Rattle.fip_tool.specs.Tool.{given_value, info_value};
 

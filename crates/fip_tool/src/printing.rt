@@ -1,7 +1,7 @@
 //! Texts for the sink.
 ghost use Rattle.std.specs.Prelude.{◌≡◌, ◌≤◌, IfErr};
-ghost use Rattle.fip_tool.specs.Seen.{PrintedIn};
-ghost use Rattle.fip_making.specs.Answers.{IsLate};
+ghost use Rattle.fip_tool.specs.Done.{PrintedIn};
+ghost use Rattle.fip_making.specs.Stops.{IsLate};
 ghost use Rattle.fip_tool.specs.Steps.{sink_failures};
 
 use fip_making::Stop;

@@ -3,7 +3,7 @@ ghost use Rattle.std.specs.Prelude.{◌≡◌, ◌++◌, IfOk, codes, decimal};
 ghost use Rattle.base_core.specs.Guid.{guid_text};
 ghost use Rattle.fwu_formats.specs.FaultText.{capsule_fault_number};
 ghost use Rattle.fwu_formats.specs.FaultText as text;
-ghost use Rattle.fip_tool.specs.Ends as said;
+ghost use Rattle.fip_tool.specs.Lines as said;
 
 use crate::lines::{add, add_guid, add_named};
 use base_core::{Guid, NoMemory};
@@ -92,7 +92,7 @@ fn not_capsule_line(alloc: Global, fault: CapsuleFault) -> Result<Vec<u8>, NoMem
 }
 
 /// The line of a stop. It is empty where the sink takes no more, and for want of memory.
-#[tactic(auto, unfolding(crate::specs::Ends::stop_line))]
+#[tactic(auto, unfolding(crate::specs::Lines::stop_line))]
 pub fn stop_line(alloc: Global, stop: &Stop) -> Result<Vec<u8>, NoMemory>
     ensures { IfOk result (λ line. line.items ≡ said.stop_line stop.now) }
 {

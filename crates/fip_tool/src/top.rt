@@ -11,7 +11,7 @@ ghost use Rattle.fip_words.specs.Order.{FipAsked, asked, info_of_source, view};
 ghost use Rattle.fip_words.specs.Values.{is_unpacked};
 ghost use Rattle.fip_tool.specs.Converted.{Converts};
 ghost use Rattle.fip_tool.specs.Done.{CommandDone, DoneWithFiles, DoneWithSource, ToolEnded};
-ghost use Rattle.fip_tool.specs.Ends.{Reported, StopTold};
+ghost use Rattle.fip_tool.specs.Lines.{Reported, StopTold};
 ghost use Rattle.fip_tool.specs.Steps.{line_failures, sink_failed};
 ghost use Rattle.fip_tool.specs.Tool.{asks_files};
 ghost use Rattle.fip_making.specs.declared.stops.Stop.TheVariants.{SinkFault};
@@ -183,8 +183,8 @@ pub fn fip_top<H: Files, I: Source, O: Sink>(
     ensures once { ReadsOnce I.Source source.old source.new }
     // Neither usage nor a listing of the source asks for a file, whatever files there are.
     ensures files_stay { IsFalse (asks_files (asked (map string_bytes words.now))) → files.new ≡ files.old }
-    // Whatever files there are: by no access (a piece of a made file is none) is a file asked for or made but those that the
-    // words name.
+    // Whatever files there are: no file is asked for or made but those that the words name. A file in which a piece of a made one
+    // lies counts as asked for.
     ensures spares { (access : Access) → IsUnnamedBy (asked (map string_bytes words.now)) access
         → H.spares files.old files.new access }
 {

@@ -3,12 +3,12 @@ ghost use Rattle.std.specs.Prelude.{◌≡◌, ◌≢◌, ◌≤◌, ◌∷◌, 
 ghost use Rattle.base_core.specs.Counts.{Rose};
 ghost use Rattle.host_io.specs.Access.{Access, Makes};
 ghost use Rattle.host_io.specs.Contents.{Directory};
-ghost use Rattle.host_io.specs.Joined.{HasPiece};
-ghost use Rattle.fip_tool.specs.Done.{PutsMade, WritesTexts};
-ghost use Rattle.fip_tool.specs.Seen.{DidIn, DidSince};
-ghost use Rattle.fip_tool.specs.Steps.{FaultsOnce, Makes, MayTear, NoneUnwritten, Prints, Writes, Written, outcome_by};
-ghost use Rattle.fip_making.specs.Answers.{Gives, IsLate};
+ghost use Rattle.host_io.specs.Joined.{AsksNoPiece, HasPiece};
+ghost use Rattle.fip_tool.specs.Done.{PutsMade, WritesTexts, DidIn};
+ghost use Rattle.fip_tool.specs.Steps.{FaultsOnce, Makes, MayTear, NoneUnwritten, Prints, Writes, Written};
+ghost use Rattle.fip_making.specs.Stops.{IsLate};
 ghost use Rattle.fip_making.specs.Payloads.{IsWholeFile, joined_pieces, made_by};
+ghost use Rattle.fip_tool.specs.Lines.{made_line};
 ghost use Rattle.fip_tool.specs.Tool.{puts};
 ghost use Rattle.fip_tool.specs.Wrote.{written_once};
 ghost use Rattle.fip_making.specs.declared.stops.Stop.{Stop};
@@ -35,7 +35,8 @@ fn join<H: Files>(alloc: Global, files: &mut H, file: &NewFile<'_>) -> Result<()
         → Written told (H.contents files.new) (Rose (H.faults files.old) (H.faults files.new))
         (MayTear (H.writes files.old) (H.writes files.new))
         file.now.name.now (joined_pieces told file.now.frame.now file.now.pieces.now) result }
-    ensures spares { (access : Access) → access ≢ Makes file.now.name.now → H.spares files.old files.new access }
+    ensures spares { (access : Access) → access ≢ Makes file.now.name.now → AsksNoPiece file.now.pieces.now access
+        → H.spares files.old files.new access }
     ensures file_count { FaultsOnce (H.faults files.old) (H.faults files.new) result }
     ensures wrote { (H.writes files.new).done ≡ written_once result (H.writes files.old).done }
     ensures unspoiled { OnOk result (NoneUnwritten (H.writes files.old) (H.writes files.new)) }
@@ -66,7 +67,8 @@ pub fn join_and_print<H: Files, O: Sink>(
     ensures told { (told : Directory) → H.contents files.old ≡ Some told → DidIn H.Files O.Sink
         (Makes (Writes file.now.name.now (joined_pieces told file.now.frame.now file.now.pieces.now) ∷ Prints line.now ∷ []))
         told files.old files.new sink.old sink.new result }
-    ensures spares { (access : Access) → access ≢ Makes file.now.name.now → H.spares files.old files.new access }
+    ensures spares { (access : Access) → access ≢ Makes file.now.name.now → AsksNoPiece file.now.pieces.now access
+        → H.spares files.old files.new access }
     ensures texts { WritesTexts H.Files O.Sink (λ texts. texts ≡ line.now ∷ []) result files.old files.new sink.old sink.new }
     ensures unspoiled { OnOk result (NoneUnwritten (H.writes files.old) (H.writes files.new)) }
     ensures silent { H.contents files.old ≡ None → H.contents files.new ≡ None }
@@ -85,12 +87,10 @@ pub fn put_made<H: Files, O: Sink>(
     made: Result<Made<'_>, Stop>,
 ) -> Result<(), Stop>
     requires { IfOk made (IsWholeFile (H.contents files.old)) }
-    ensures told { (told : Directory) (value : Result (ℕ × List ℕ) Stop) (before : ℕ)
-        → H.contents files.old ≡ Some told → before ≤ H.faults files.old
-        → Gives (made_by told) (Rose before (H.faults files.old)) value made.entry
-        → DidSince H.Files O.Sink before (outcome_by (puts format out.now) value) told
-        files.old files.new sink.old sink.new result }
-    ensures spares { (access : Access) → access ≢ Makes out.now → H.spares files.old files.new access }
+    ensures told { (told : Directory) → H.contents files.old ≡ Some told → IfOk made.entry (λ m. DidIn H.Files O.Sink
+        (Makes (puts (made_line format) out.now (made_by told m))) told files.old files.new sink.old sink.new result) }
+    ensures spares { (access : Access) → access ≢ Makes out.now → IfOk made.entry (λ m. AsksNoPiece m.pieces.items access)
+        → H.spares files.old files.new access }
     ensures puts { PutsMade H.Files O.Sink format made.entry result files.old files.new sink.old sink.new }
 {
     let made = match made {

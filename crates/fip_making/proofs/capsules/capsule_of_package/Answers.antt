@@ -10,7 +10,7 @@ pub returns-clause-whole : goal.returns-clause-whole
 returns-clause-whole g c =
     let entries = c.as_slice.ensures ∙ ap (λ (t : Toc). t.entries) c.toc.view_is in
     c.capsule_of_entries.ensures.whole _ (subst (All (HasEntry (g.H.Files.contents c.table_with.new.files) c.args.from.now)) (sym entries)
-    (has-entries _ _ c.args.from.now [] c.in_ok-toc.toc c.table_with.ensures.reads.only.same (λ told e. c.in_ok-toc.ensures.told told e)))
+    (has-entries _ _ c.args.from.now [] c.in_ok-toc.toc c.table_with.ensures.reads.files.same (λ told e. c.in_ok-toc.ensures.told told e)))
 
 pub returns-clause-told : goal.returns-clause-told
 returns-clause-told g c = λ told e.

@@ -6,7 +6,7 @@ use Rattle.fip_making.proofs.Conversions.{has-items, opened-capsule, package-err
 use Rattle.fip_making.proofs.capsules.package_of_capsule.Goals as goal
 
 pub returns-clause-whole : goal.returns-clause-whole
-returns-clause-whole g c = c.package_of_items.ensures.whole _ (has-items _ _ c.args.from.now c.in_ok-toc.toc c.read_enclosed.ensures.reads.only.same (λ told e. c.in_ok-toc.ensures.told told e))
+returns-clause-whole g c = c.package_of_items.ensures.whole _ (has-items _ _ c.args.from.now c.in_ok-toc.toc c.read_enclosed.ensures.reads.files.same (λ told e. c.in_ok-toc.ensures.told told e))
 
 pub returns-clause-told : goal.returns-clause-told
 returns-clause-told g c = λ told e.

@@ -1,10 +1,11 @@
 use Rattle.std.proofs.Common.{◌∙◌, List, Vec, Some, ap, map, subst, sym}
+use Rattle.std.proofs.lemmas.Result.{IfOk-weaker}
 use Rattle.std.specs.Global.{Global}
 use Rattle.fip_words.specs.Order.{part_view}
 use Rattle.fip_making.specs.{Payloads.IsElsewhere, Payloads.made_by, Payloads.part_told, declared.payloads.Payload.Payload}
 use Rattle.fip_making.specs.Values.{new_serial, pack_value}
 use Rattle.fip_making.proofs.Packings.{create-err, create-of, gives-same, there-of-files}
-use Rattle.fip_making.proofs.Tables.{gives-err, if-ok-as}
+use Rattle.fip_making.proofs.Tables.{gives-err}
 use Rattle.fip_making.proofs.making.created.Goals as goal
 
 pub returns-in-Ok-clause-told : goal.returns-in-Ok-clause-told
@@ -20,4 +21,4 @@ returns-in-Err-clause-told g c = λ told e.
 
 pub returns-in-Ok-clause-pieces : goal.returns-in-Ok-clause-pieces
 returns-in-Ok-clause-pieces g c =
-    if-ok-as c.packed.result _ _ (λ m none access other. none access (subst (λ (ps : List Payload). IsElsewhere ps access) (sym c.as_slice.ensures.value) (c.in-Ok.ensures.elsewhere access other))) c.packed.ensures.pieces
+    IfOk-weaker c.packed.result _ _ (λ m none access other. none access (subst (λ (ps : List Payload). IsElsewhere ps access) (sym c.as_slice.ensures.value) (c.in-Ok.ensures.elsewhere access other))) c.packed.ensures.pieces

@@ -6,7 +6,7 @@ use Rattle.fip_making.proofs.Repacking.{has-entries, opened, remove-err, remove-
 use Rattle.fip_making.proofs.making.removed.Goals as goal
 
 pub returns-clause-whole : goal.returns-clause-whole
-returns-clause-whole g c = c.without.ensures.whole _ (has-entries _ _ c.args.from.now c.args.guids.now c.in_ok-toc.toc c.table_with.ensures.reads.only.same (λ told e. c.in_ok-toc.ensures.told told e))
+returns-clause-whole g c = c.without.ensures.whole _ (has-entries _ _ c.args.from.now c.args.guids.now c.in_ok-toc.toc c.table_with.ensures.reads.files.same (λ told e. c.in_ok-toc.ensures.told told e))
 
 pub returns-clause-told : goal.returns-clause-told
 returns-clause-told g c = λ told e.

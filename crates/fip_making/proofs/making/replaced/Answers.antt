@@ -1,9 +1,10 @@
 use Rattle.std.proofs.Common.{◌≡◌, ◌∙◌, All, List, Option, ℕ, Some, ap, map, subst, sym}
+use Rattle.std.proofs.lemmas.Result.{IfOk-weaker}
 use Rattle.host_io.specs.Contents.{Directory}
 use Rattle.fwu_formats.specs.Package.{Entry, Toc}
 use Rattle.fip_words.specs.Order.{part_view}
 use Rattle.fip_making.specs.{Payloads.HasEntry, Payloads.IsElsewhere, Payloads.file_bytes, Payloads.made_by, Payloads.part_told, Values.parts_in, declared.payloads.Payload.Payload}
-use Rattle.fip_making.proofs.{Packings.there-of-files, Packings.gives-same, Repacking.replaced-value, Tables.if-ok-as}
+use Rattle.fip_making.proofs.{Packings.there-of-files, Packings.gives-same, Repacking.replaced-value}
 use Rattle.fip_making.proofs.making.replaced.Goals as goal
 
 -- the entries' payloads, in files that stayed as they were
@@ -14,7 +15,7 @@ entries-in start now name es entries same is all =
 pub returns-in-Ok-clause-whole : goal.returns-in-Ok-clause-whole
 returns-in-Ok-clause-whole g c =
     let entries = c.as_slice-entries.ensures ∙ ap (λ (t : Toc). t.entries) c.toc.view_is in
-    let same = c.payloads_of_files.ensures.reads.only.same in
+    let same = c.payloads_of_files.ensures.reads.files.same in
     c.repacked.ensures.whole _ (
       there-of-files _ _ c.in-Ok.new.items c.as_slice.result.now same c.as_slice.ensures.value c.in-Ok.ensures.there,
       entries-in _ _ c.args.from.now c.as_slice-entries.result.now c.args.toc.now.entries same entries c.requires,
@@ -33,4 +34,4 @@ returns-in-Ok-clause-told g c = λ told e.
 
 pub returns-in-Ok-clause-pieces : goal.returns-in-Ok-clause-pieces
 returns-in-Ok-clause-pieces g c =
-    if-ok-as c.repacked.result _ _ (λ m none access other. none access (other.0, subst (λ (ps : List Payload). IsElsewhere ps access) (sym c.as_slice.ensures.value) (c.in-Ok.ensures.elsewhere access other.1))) c.repacked.ensures.pieces
+    IfOk-weaker c.repacked.result _ _ (λ m none access other. none access (other.0, subst (λ (ps : List Payload). IsElsewhere ps access) (sym c.as_slice.ensures.value) (c.in-Ok.ensures.elsewhere access other.1))) c.repacked.ensures.pieces

@@ -3,7 +3,7 @@ use Rattle.std.proofs.lemmas.List.{take_all}
 use Rattle.std.specs.Prelude.{◌||◌}
 use Rattle.host_io.specs.Contents.{Directory}
 use Rattle.fip_words.specs.{Order.image_view, declared.values.ImageWord.ImageWord}
-use Rattle.fip_making.specs.Answers.{IsLate}
+use Rattle.fip_making.specs.Stops.{IsLate}
 use Rattle.fip_making.proofs.{Packings.gives-same, Tables.gives-err, Tables.rose-still}
 use Rattle.fip_making.proofs.ManifestLemmas.{longs-more-at, longs_value, sizes-of, sizes-stopped-at}
 use Rattle.fip_making.proofs.ReadsBy.{alone-then, alone-then-stopped, alone-wider, one-spared}

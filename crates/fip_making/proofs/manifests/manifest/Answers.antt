@@ -11,12 +11,12 @@ use Rattle.fip_making.proofs.manifests.manifest.Goals as goal
 pub returns-in-Some-clause-told : goal.returns-in-Some-clause-told
 returns-in-Some-clause-told g c = λ told e.
     gives-same (λ m. (m.0, m.1.items)) _ _ _ _ c.manifest_of_rows.result (λ r. absurd r)
-    (made-of told c.args.security c.args.named.now c.in-Some.rows.items (rw c.in-Some.is at (c.in_ok-rows.ensures.told told (c.check_sizes.ensures.reads.only.same ∙ e))) (rw c.in-Some.is at c.in_ok-rows.ensures.count))
+    (made-of told c.args.security c.args.named.now c.in-Some.rows.items (rw c.in-Some.is at (c.in_ok-rows.ensures.told told (c.check_sizes.ensures.reads.files.same ∙ e))) (rw c.in-Some.is at c.in_ok-rows.ensures.count))
     c.manifest_of_rows.ensures.value
 
 pub returns-in-None-clause-told : goal.returns-in-None-clause-told
 returns-in-None-clause-told g c = λ told e.
-    too-long-of told c.args.security c.args.named.now c.refusal.result (rw c.in-None.is at (c.in_ok-rows.ensures.told told (c.check_sizes.ensures.reads.only.same ∙ e))) c.refusal.ensures
+    too-long-of told c.args.security c.args.named.now c.refusal.result (rw c.in-None.is at (c.in_ok-rows.ensures.told told (c.check_sizes.ensures.reads.files.same ∙ e))) c.refusal.ensures
 
 pub returns-in_err-check_sizes-clause-told : goal.returns-in_err-check_sizes-clause-told
 returns-in_err-check_sizes-clause-told g c =
@@ -26,8 +26,8 @@ returns-in_err-check_sizes-clause-told g c =
 pub returns-in_err-rows-clause-told : goal.returns-in_err-rows-clause-told
 returns-in_err-rows-clause-told g c =
     rw (handed-on c.from_residual-in_err-rows.result c.in_err-rows.field-0.0 c.from_residual-in_err-rows.ensures.1) (λ told e.
-    gives-err (option_map (λ (v : Vec CodeRow Global). map row v.items)) (λ (m : ℕ × Vec ℕ Global). (m.0, m.1.items)) _ _ _ _ c.in_err-rows.field-0.0 (λ r. rose-from _ _ _ c.check_sizes.ensures.reads.only.later r) (value-stopped told c.args.security (map image_view c.args.named.now) _)
-    (c.in_err-rows.ensures.told told (c.check_sizes.ensures.reads.only.same ∙ e)))
+    gives-err (option_map (λ (v : Vec CodeRow Global). map row v.items)) (λ (m : ℕ × Vec ℕ Global). (m.0, m.1.items)) _ _ _ _ c.in_err-rows.field-0.0 (λ r. rose-from _ _ _ c.check_sizes.ensures.reads.files.later r) (value-stopped told c.args.security (map image_view c.args.named.now) _)
+    (c.in_err-rows.ensures.told told (c.check_sizes.ensures.reads.files.same ∙ e)))
 
 pub returns-in_err-rows-clause-reads : goal.returns-in_err-rows-clause-reads
 returns-in_err-rows-clause-reads g c =

@@ -7,7 +7,7 @@ use Rattle.manifest_core.specs.{Shown.row, declared.rows.Row.Row as CodeRow}
 use Rattle.fip_making.proofs.{Tables.gives-err, Tables.rose-still, Refusing.handed-on}
 use Rattle.fip_making.proofs.ManifestLemmas.{count-more, rows-more-at, rows_value, seen-more, stopped-at}
 use Rattle.fip_making.proofs.ReadsBy.{alone-starved, alone-then, alone-then-stopped, alone-wider, one-spared}
-use Rattle.fip_making.specs.Answers.{IsLate}
+use Rattle.fip_making.specs.Stops.{IsLate}
 use Rattle.fip_making.specs.declared.stops.Stop.TheVariants as stop
 use Rattle.fip_making.proofs.manifests.rows_of_files.Goals as goal
 

@@ -2,7 +2,7 @@ use Rattle.std.proofs.Common.{◌∙◌, ◌≢◌, ℕ, All, Ok, Option, List, 
 use Rattle.std.proofs.lemmas.List.{length-append}
 use Rattle.std.specs.Global.{Global}
 use Rattle.host_io.specs.{Access.Asks, Contents.Directory}
-use Rattle.fip_making.specs.{Payloads.IsElsewhere, Payloads.IsThere, Payloads.part_told, declared.payloads.Payload.Payload, Answers.IsLate}
+use Rattle.fip_making.specs.{Payloads.IsElsewhere, Payloads.IsThere, Payloads.part_told, declared.payloads.Payload.Payload, Stops.IsLate}
 use Rattle.fip_making.proofs.Packings.{more-payloads, one-more-there, stopped-at}
 use Rattle.fip_making.proofs.ReadsBy.{alone-starved, alone-then, alone-then-stopped, alone-wider, one-spared}
 use Rattle.fip_making.proofs.Tables.{gives-err, rose-still}

@@ -1,9 +1,10 @@
 use Rattle.std.proofs.Common.{ℕ, List, Ok, ap, arith, subst, ◌∙◌}
+use Rattle.std.proofs.lemmas.Result.{IfErr-weaker}
 use Rattle.base_core.specs.Counts.{Rose}
 use Rattle.host_io.proofs.Once.{bytes-none, bytes-one, bytes-then, once-then}
-use Rattle.fip_making.proofs.{Tables.rose-from, Refusing.if-err-as, Refusing.handed-on}
+use Rattle.fip_making.proofs.{Tables.rose-from, Refusing.handed-on}
 use Rattle.fip_making.proofs.SourceLemmas.{goes-on, last, nothing-yet, stopped, too-long, ended-quiet}
-use Rattle.fip_making.specs.{Seen.FedSome, Answers.source_failed, Refusals.IsOfSource, Refusals.Unstarved}
+use Rattle.fip_making.specs.{Answers.FedSome, Answers.source_failed, Stops.IsOfSource, Stops.Unstarved}
 use Rattle.fip_making.proofs.table.read_given.Goals as goal
 
 pub loop-count-init : goal.loop-count-init
@@ -57,5 +58,5 @@ returns-then-some-eq0-clause-source g c =
       later = omega (arith, c.loop-count.invariant.read.later, e.later);
       count = e.count ∙ c.loop-count.invariant.read.none ∙ ended-quiet c.ended.result _ c.ended.ensures.asks.file;
       sink = c.ended.ensures.asks.sink;
-      refusals = if-err-as c.ended.result (Unstarved IsOfSource) IsOfSource (λ s own. own.0) c.ended.ensures.asks.refusals;
+      refusals = IfErr-weaker c.ended.result (Unstarved IsOfSource) IsOfSource (λ s own. own.0) c.ended.ensures.asks.refusals;
     }

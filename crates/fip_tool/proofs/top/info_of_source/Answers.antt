@@ -1,10 +1,11 @@
 use Rattle.std.proofs.Common.{◌∙◌, Some, List, ℕ, refl, subst, sym, Some}
+use Rattle.std.proofs.lemmas.Result.{IfErr-weaker}
 use Rattle.base_core.specs.Counts.{Rose}
 use Rattle.fip_tool.proofs.{Faults.source-printed, Faults.printed-quiet, WroteLemmas.wrote-printed}
 use Rattle.fip_words.specs.Order as asks
-use Rattle.fip_tool.specs.{Said.IsListing, Said.IsTexts, Steps.PrintedText, Wrote.files_with}
-use Rattle.fip_making.specs.{Answers.IsLate, Refusals.IsOfSource}
-use Rattle.fip_making.proofs.Refusing.{if-err-as, late-of-source}
+use Rattle.fip_tool.specs.{Wrote.IsListing, Wrote.IsTexts, Steps.PrintedText, Wrote.files_with}
+use Rattle.fip_making.specs.{Stops.IsLate, Stops.IsOfSource}
+use Rattle.fip_making.proofs.Refusing.{late-of-source}
 use Rattle.fip_tool.proofs.top.info_of_source.Goals as goal
 
 pub returns : goal.returns
@@ -22,5 +23,5 @@ returns g c =
       later = put.later;
       source_count = read.source.count ∙ printed-quiet _ _ _ _ c.print.result _ put.printed;
       sink_count = put.count;
-      refusals = if-err-as c.print.result IsLate IsOfSource late-of-source put.late;
+      refusals = IfErr-weaker c.print.result IsLate IsOfSource late-of-source put.late;
     }

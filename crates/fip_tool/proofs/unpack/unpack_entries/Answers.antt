@@ -1,11 +1,12 @@
 use Rattle.std.proofs.Common.{◌∙◌, ◌≢◌, ◌+◌, ◌≤◌, ◌∷◌, [], ℕ, List, ap, drop, filter, length, map, take, arith, sym, subst}
+use Rattle.std.specs.List.{concat}
 use Rattle.std.specs.Io.KnownBytes.{Appends}
 use Rattle.std.proofs.lemmas.List.{length-append, length-map, map-append}
 use Rattle.std.specs.Prelude.{◌==◌, ◌||◌}
 use Rattle.std.proofs.lemmas.List.Elements.{All-get_or}
 use Rattle.fwu_formats.specs.Package.{Entry}
 use Rattle.host_io.specs.Access.{Makes}
-use Rattle.fip_tool.specs.{Lines.unpacked_line, Lines.unpacked_name, Said.joined_texts, Steps.sink_failed, Wrote.raised_by}
+use Rattle.fip_tool.specs.{Lines.unpacked_line, Lines.unpacked_name, Steps.sink_failed, Wrote.raised_by}
 use Rattle.fip_making.specs.Values.{has_type_among}
 use Rattle.fip_tool.proofs.{Texts.said-more, Faults.faults-then, WritingLemmas.none-unwritten}
 use Rattle.fip_tool.proofs.{WritingLemmas.tears-still, WroteLemmas.one-wrote, WroteLemmas.wrote-behind}
@@ -74,7 +75,7 @@ loop-entry-preserved g c =
             later_sink = c.loop-entry.invariant.later_sink;
             sink_count = c.loop-entry.invariant.sink_count;
             said =
-                subst (λ (l : List Entry). Appends (g.O.Sink.taken c.args.sink.now) (g.O.Sink.taken c.loop-entry.sink) (joined_texts (map line l))) (sym same) c.loop-entry.invariant.said;
+                subst (λ (l : List Entry). Appends (g.O.Sink.taken c.args.sink.now) (g.O.Sink.taken c.loop-entry.sink) (concat (map line l))) (sym same) c.loop-entry.invariant.said;
             so-far = λ told bytes is stored.
                 step-passed c.args.unpacked.now.prefix.now c.args.unpacked.now.from.now bytes p es i told _
                 e c.loop-entry-test.true (sym c.entry-item.is) _ _

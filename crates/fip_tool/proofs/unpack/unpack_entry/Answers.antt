@@ -1,6 +1,7 @@
-use Rattle.std.proofs.Common.{◌∷◌, ◌∙◌, [], ap}
+use Rattle.std.proofs.Common.{◌≢◌, ◌∷◌, ◌∙◌, [], ap}
+use Rattle.std.proofs.lemmas.List.Elements.{All-cons, All-nil}
 use Rattle.fwu_formats.specs.Package.{Entry}
-use Rattle.host_io.specs.{Contents.Directory, declared.joining.Piece.Piece}
+use Rattle.host_io.specs.{Access.Asks, Contents.Directory, declared.joining.Piece.Piece}
 use Rattle.fip_tool.specs.Lines.{unpacked_name}
 use Rattle.fip_making.specs.Payloads.{joined_pieces}
 use Rattle.fip_tool.proofs.UnpackedBy.{made, piece-is, unnamed}
@@ -18,7 +19,8 @@ returns g c =
     (λ told bytes is. piece-is told c.args.from.now bytes c.args.entry.now c.entry.inside.offset c.entry.inside.size is
     (ap (λ (e : Entry). e.offset) c.entry.view_is) (ap (λ (e : Entry). e.size) c.entry.view_is))
     (c.as_slice.ensures.value ∙ c.in_ok-line.ensures) c.in_ok-name.ensures.other
-    e.told e.silent e.unspoiled e.texts e.spares
+    e.told e.silent e.unspoiled e.texts
+    (λ access asked other. e.spares access other (All-cons (λ (p : Piece). access ≢ Asks p.file.now) piece [] asked (All-nil _)))
 
 pub returns-in_err-name : goal.returns-in_err-name
 returns-in_err-name g c =
