@@ -15,7 +15,7 @@ use Rattle.fwu_model.specs.Reply as reply
 use Rattle.fwu_model.specs.declared.kinds.Note.TheVariants as note
 use Rattle.fwu_formats.specs.Digests.{passes_any}
 use Rattle.script_turns.specs.{Powered.TurnMoment, Runs.Ran, Runs.calls_of}
-use Rattle.script_runs.specs.Running.{DoesTurn}
+use Rattle.script_runs.specs.Ending.{DoesTurn}
 use Rattle.script_runs.proofs.RunEnds.{on-at-zero, on-more, take-more}
 use Rattle.script_turns.proofs.RunTurns.{ran-none, ran-on}
 use Rattle.flash_commands.specs.Soaking.{EndsNone, GoesSoaking, SoakReached, goes, starved, ended}

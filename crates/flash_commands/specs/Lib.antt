@@ -2,4 +2,3 @@ pub mod Showing
 pub mod Formatting
 pub mod Soaking
 pub mod SoakWays
-pub mod Here

@@ -2,6 +2,7 @@
 use Rattle.std.specs.Prelude.{◌≡◌, ◌≢◌, ℕ, true, List, ◌∷◌, ◌++◌, Option, Some, None, Ok, Err, IsTrue, IsFalse, []}
 use Rattle.fwu_formats.specs.{Digests.passes_any, declared.kinds.LayoutFault.TheVariants.BeyondFlash}
 use Rattle.fwu_model.specs.{Call.Call, Reply.Turn, Run.ends_run, Headline.IsPrefixOf, Causes.status_by, Causes.note_by}
+use Rattle.fwu_model.specs.Causes.{Faults}
 use Rattle.fwu_model.specs.Reply as reply
 use Rattle.fwu_model.specs.declared.kinds.Note as model
 use Rattle.fwu_model.specs.declared.kinds.Note.TheVariants as model_note
@@ -11,10 +12,13 @@ use Rattle.flash_format.specs.{declared.formatting.Formatted.Formatted, declared
 use Rattle.flash_format.specs.declared.stops.InputFault.TheVariants as fault
 use Rattle.gen_core.specs.{Calls.file_name, Calls.soak_calls, Line.soak_line, Line.too_small_line, Setup.is_too_small}
 use Rattle.gen_core.specs.Setup.{soak_layout}
-use Rattle.script_turns.specs.{Powered.TurnMoment, Powered.at, Runs.Ran, Runs.calls_of}
-use Rattle.script_runs.specs.Ending.{Device, Ending, PutsNone, World, in_model, is_beyond_model, noted}
+use Rattle.script_turns.specs.{Powered.TurnMoment, Runs.Ran, Runs.calls_of}
+use Rattle.script_runs.specs.Ending.{Device, Ending, PutsNone, World, ending, in_model, is_beyond_model, noted}
+use Rattle.flash_core.specs.declared.flash.Flash as flash
+use Rattle.host_io.specs.declared.sink.Sink as sink
 use Rattle.host_io.specs.Printed.{Prints}
-use Rattle.script_runs.specs.{Ways.Given, Ways.HasGoodList, declared.done.Note.Note}
+use Rattle.script_runs.specs.{Ways.Given, Ways.HasGoodList, Ways.described, Ways.moment_world, declared.done.Done.Done}
+use Rattle.script_runs.specs.declared.done.Note.{Note}
 use Rattle.script_runs.specs.declared.done.Note.TheVariants as note
 use Rattle.flash_commands.specs.Formatting.{Tries, format_note, format_status, format_text}
 use Rattle.flash_commands.specs.{Showing.RefusedList, Soaking.EndsNone, Soaking.first_files, Soaking.soak_files, Soaking.stop_line}
@@ -28,9 +32,7 @@ pub data SoakEnds (rounds : ℕ) (calls : List Call) (ending : Ending model.Note
       → Prints (soak_line rounds ending.journal) 0 ending.status taken_before taken_after faults_before faults_after
       → SoakEnds rounds calls ending taken_before taken_after faults_before faults_after
   lacking : IsPrefixOf (calls_of ending.journal) calls → EndsNone ending.journal → ending.noted ≡ model_note.Nothing
-      → ending.status ≡ 9
-      → taken_after ≡ taken_before
-      → faults_after ≡ faults_before
+      → ending.status ≡ 9 → taken_after ≡ taken_before → faults_after ≡ faults_before
       → SoakEnds rounds calls ending taken_before taken_after faults_before faults_after
   stopped : IsPrefixOf (calls_of ending.journal) calls → (front : List Turn) (t : Turn)
       → ending.journal ≡ front ++ t ∷ [] → EndsNone front
@@ -53,7 +55,7 @@ pub data SoakWay (device : Device) (g : Given) (seed rounds : ℕ) (ending : End
   not_formatted : HasGoodList g.list g.files → IsFalse (is_too_small device.blocks) → ending.journal ≡ [] → (stop : FormatStop)
       → Tries passes_any device.tells (Some (first_files seed)) (file_name 0) soak_layout device.blocks
       old.flash new.flash 0 0 (Err stop)
-      → ending.noted ≡ format_note (Err stop)
+      → ending.noted ≡ format_note (Err stop) → new.faults.files ≡ old.faults.files
       → Prints (format_text (Err stop)) (format_status (Err stop)) ending.status
       old.taken new.taken old.faults.sink new.faults.sink
       → SoakWay device g seed rounds ending old new
@@ -62,8 +64,13 @@ pub data SoakWay (device : Device) (g : Given) (seed rounds : ℕ) (ending : End
       → Tries passes_any device.tells (Some (first_files seed)) (file_name 0) soak_layout device.blocks
       old.flash start 0 0 (Ok done)
       → start.on ≡ None → start.power ≡ true
-      → Ran passes_any device.tells (Some (soak_files seed rounds)) ending.journal start
-      (at on new.flash.told new.flash.writes new.flash.counts new.flash.armed new.flash.power) 0 0
+      → Ran passes_any device.tells (Some (soak_files seed rounds)) ending.journal start (record new.flash { on = on }) 0 0
       → SoakEnds rounds (soak_calls seed rounds) (in_model ending) old.taken new.taken old.faults.sink new.faults.sink
-      → IsFalse (is_beyond_model ending.noted)
+      → IsFalse (is_beyond_model ending.noted) → new.faults.files ≡ old.faults.files
       → SoakWay device g seed rounds ending old new
+
+-- one of these ways, of the device and the sink, whatever the files and the source had counted, which are not asked
+abbrev pub SoaksWay : {D O : Type 0} → flash.Ghosts D → sink.Ghosts O → Given → ℕ → ℕ → Faults → D → O → Done D → O → Type 0
+SoaksWay d o g seed rounds faults flash sink done sink_after =
+    SoakWay (described d flash) g seed rounds (ending done) (moment_world d o faults flash sink)
+    (moment_world d o faults done.flash sink_after)

@@ -4,8 +4,7 @@ ghost use Rattle.fwu_journal.specs.Shown.{turns};
 ghost use Rattle.host_io.specs.Reads.{ReadsFile};
 ghost use Rattle.script_turns.specs.Powered.{moment};
 ghost use Rattle.flash_commands.specs.Formatting.{Formats, Tries, format_note, format_status, layout_of};
-ghost use Rattle.flash_commands.specs.Here.{without_list, world_at};
-ghost use Rattle.script_runs.specs.Ways.{described};
+ghost use Rattle.script_runs.specs.Ways.{described, without_list, world_at};
 
 use crate::format_line::{FORMAT_ROOM, add_format_line};
 use base_core::ImageRow;

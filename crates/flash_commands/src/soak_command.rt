@@ -12,12 +12,10 @@ ghost use Rattle.gen_core.specs.Setup.{is_too_small, soak_layout};
 ghost use Rattle.host_io.specs.Contents.{Directory};
 ghost use Rattle.script_turns.specs.Powered.{TurnMoment, device, moment, moment_of};
 ghost use Rattle.script_runs.specs.Ending.{ending, in_model, noted};
-ghost use Rattle.flash_commands.specs.Here.{SoaksWay};
-ghost use Rattle.script_runs.specs.Here.{PrintsTo};
-ghost use Rattle.flash_commands.specs.SoakWays.{SoakEnds};
+ghost use Rattle.flash_commands.specs.SoakWays.{SoakEnds, SoaksWay};
 ghost use Rattle.script_runs.specs.ByTable.{flash_fault_line};
 ghost use Rattle.flash_commands.specs.Soaking.{StandsHere, only_file_of, first_files};
-ghost use Rattle.script_runs.specs.Ways.{Given, HasGoodList};
+ghost use Rattle.script_runs.specs.Ways.{Given, HasGoodList, PrintsTo};
 
 use crate::format_line::add_format_line;
 use crate::formatting::{note_of, status_of, try_format};
@@ -133,10 +131,10 @@ fn format_and_soak<D: Flash, O: Sink>(
     requires off { IsFalse (D.on flash) }
     requires unarmed { D.arming flash ≡ None }
     requires turn_fits { HasRoomFor room.journal 1 }
-    ensures way { (seed : ℕ) (g : Given) (before after : Faults) → HasGoodList g.list g.files
+    ensures way { (seed : ℕ) (g : Given) (faults : Faults) → HasGoodList g.list g.files
         → IsFalse (is_too_small (D.blocks flash)) → drawn.register ≡ register_after 2 seed
         → only_file_of (string_bytes drawn.first.name) drawn.first.bytes.items ≡ first_files seed
-        → SoaksWay D.Flash O.Sink g seed rounds before after flash sink.old result sink.new }
+        → SoaksWay D.Flash O.Sink g seed rounds faults flash sink.old result sink.new }
     ensures later { O.faults sink.old ≤ O.faults sink.new }
     ensures size { D.blocks result.flash ≡ D.blocks flash }
 {
@@ -192,8 +190,8 @@ pub fn soak<D: Flash, O: Sink>(
 ) -> Done<D>
     requires off { IsFalse (D.on flash) }
     requires unarmed { D.arming flash ≡ None }
-    ensures way { (g : Given) (before after : Faults) → HasGoodList g.list g.files
-        → SoaksWay D.Flash O.Sink g seed rounds before after flash sink.old result sink.new }
+    ensures way { (g : Given) (faults : Faults) → HasGoodList g.list g.files
+        → SoaksWay D.Flash O.Sink g seed rounds faults flash sink.old result sink.new }
     ensures later { O.faults sink.old ≤ O.faults sink.new }
     ensures size { D.blocks result.flash ≡ D.blocks flash }
 {

@@ -1,8 +1,7 @@
 -- What is done for what the words ask for, from what the parts of the command did.
-use Rattle.std.proofs.Common.{◌≡◌, ◌≢◌, ◌≤◌, ℕ, Bool, true, false, List, Option, Some, None, refl, sym, ap, subst, ◌∙◌, arith, inl, inr}
+use Rattle.std.proofs.Common.{◌≡◌, ◌≢◌, ◌≤◌, ℕ, Bool, true, false, List, Option, Some, None, refl, sym, ap, subst, ◌∙◌, arith}
 use Rattle.std.specs.Prelude.{IsTrue, IsFalse, ⊤, []}
 use Rattle.std.proofs.{lemmas.Bool.false≢true, lemmas.Option.same_Some}
-use Rattle.fwu_formats.specs.Digests.{passes_any}
 use Rattle.fwu_model.specs.{Causes.Faults, Causes.may_fail_before, Reply.Turn, Asked.script_asked, Wrote.usage_line}
 use Rattle.fwu_model.specs.Asked as model
 use Rattle.fwu_model.specs.declared.kinds.Note.TheVariants as model_note
@@ -12,7 +11,7 @@ use Rattle.fwu_words.specs.declared.orders.Place.TheVariants as place
 use Rattle.fwu_words.specs.declared.orders.ScriptFrom.TheVariants as origin
 use Rattle.host_io.specs.{Contents.Directory, Printed.Prints}
 use Rattle.script_turns.specs.{Powered.TurnMoment, Runs.calls_of, Runs.sends_none}
-use Rattle.script_runs.specs.{Refusing.in_short, Refusing.plain_of, Refusing.text_of, Sourced.FailsOnce, Sourced.TakesScript}
+use Rattle.script_runs.specs.{Sourced.in_short, Sourced.plain_of, Sourced.text_of, Sourced.FailsOnce, Sourced.TakesScript}
 use Rattle.script_runs.specs.{Sourced.reads_all, WaysByTable.WayAt, WaysByTable.WayByTable, declared.done.Note.Note}
 use Rattle.script_runs.specs.Ending.{is_beyond_model, noted, Device, Ending, World, in_model}
 use Rattle.flash_commands.specs.SoakWays as soak
@@ -21,20 +20,15 @@ use Rattle.script_runs.specs.Ways as way
 use Rattle.script_runs.specs.declared.done.Note.TheVariants as note
 use Rattle.script_runs.proofs.TopWays.{device-of, end-of, world-of, refused-by, with-list}
 use Rattle.script_runs.proofs.TableWays.{table-refused, table-starved, table-with-list}
-use Rattle.script_runs.proofs.TopSources.{not-done, none-fails, takes-nothing}
-use Rattle.script_cmd.specs.{Here.Answered, Here.ServeWay, Here.SoakHere, Promises.given_to, ReadsInputs.ReadsInputs, ByList.ByList}
-use Rattle.script_cmd.specs.Handed.{asks_beyond, asks_files, asks_package, asks_source, leaves_on, RunsOrNone, over_table}
+use Rattle.script_runs.proofs.TopSources.{none-fails, takes-nothing}
+use Rattle.script_cmd.specs.{Here.Answered, Here.ServeWay, Promises.given_to, Serves.ReadsInputs}
+use Rattle.script_cmd.specs.Handed.{asks_beyond, asks_files, asks_package, asks_source, RunsOrNone, over_table}
 use Rattle.script_cmd.specs.NoTurns.{FormattedBy, ShowedBy}
 use Rattle.script_cmd.specs.Here as serve
 use Rattle.script_cmd.proofs.{ServeTop.refused-serves, ServeTop.serves-with-list, SoakTop.refused-soaks, SoakTop.soaks-with-list}
 use Rattle.script_cmd.proofs.{TopLists.no-list-named, Unasked.Later, Unasked.inputs-of}
 use Rattle.script_cmd.proofs.TopFormats.{formats-with-list, none-some, refused-formats, starved-formats}
 use Rattle.script_cmd.proofs.TopShows.{refused-shows, shows-with-list, starved-shows}
-
--- what holds whichever manifests pass
-pub whichever : (Has : (List ℕ → Bool) → Type 0) (Idle : Type 0) (P : (List ℕ → Bool) → Type 0) (Q : Type 0) → ByList Has Idle P → ((passes : List ℕ → Bool) → P passes → Q) → Q
-whichever Has Idle P Q (inl (passes, has, p)) goes = goes passes p
-whichever Has Idle P Q (inr (idle, all)) goes = goes passes_any (all passes_any)
 
 -- other words ask for no flash behind a table
 pub not-over : (asked other : Option Asked) (plain : Asked) → asked ≡ other → over_table other ≡ None → over_table asked ≡ Some plain → ⊥
@@ -89,12 +83,6 @@ on-flash from place.Flash none = refl
 on-flash origin.Source place.Partitions none = absurd (false≢true (sym none))
 on-flash origin.Boot place.Partitions none = absurd (false≢true (sym none))
 
-left-off : (from : ScriptFrom) (at : Place) → leaves_on (Some (turns_of from at)) ≡ false
-left-off origin.Source place.Flash = refl
-left-off origin.Source place.Partitions = refl
-left-off origin.Boot place.Flash = refl
-left-off origin.Boot place.Partitions = refl
-
 module _ (passes : List ℕ → Bool) (tells : Bool) (blocks : ℕ) (told : Option Directory) (left : Option (List ℕ)) (journal : List Turn) (status : ℕ) (said : Note) (old new : TurnMoment) (taken_before taken_after : Option (List ℕ)) (faults_before faults_after : Faults) where
   -- the way on the device, and the way behind its table
   turns-way : (from : ScriptFrom) (at : Place) → RunsOrNone (Some (turns_of from at))
@@ -126,7 +114,7 @@ abbrev DoneBy : (List ℕ → Bool) → Device → Given → Ending Note → Wor
 DoneBy passes device g end old new rest ask.show = ShowedBy device.tells g (in_model end) old new
 DoneBy passes device g end old new rest (ask.format banks rows file) =
     FormattedBy passes device g file (record { banks = banks; rows = rows }) end old new
-DoneBy passes device g end old new rest (ask.soak seed rounds) = SoakHere device g seed rounds end old new
+DoneBy passes device g end old new rest (ask.soak seed rounds) = soak.SoakWay device g seed rounds end old new
 DoneBy passes device g end old new rest ask.serve = ServeWay passes device.tells g (in_model end) old new rest
 DoneBy passes device g end old new rest other = ⊤
 
@@ -167,7 +155,6 @@ module _ {H I : Type 0} {passes : List ℕ → Bool} {tells : Bool} {blocks : �
     formats = λ banks rows file other. absurd (no-other from at (ask.format banks rows file) refl other);
     soaks = λ seed rounds other. absurd (no-other from at (ask.soak seed rounds) refl other);
     serves = λ other. absurd (no-other from at ask.serve refl other);
-    power = λ leaves zero. absurd (false≢true (sym (left-off from at) ∙ leaves));
     note = λ none. quiet (on-flash from at none);
     reads = record {
       takes = λ runs. whole (of-source from at runs);
@@ -187,13 +174,12 @@ module _ {H I : Type 0} {passes : List ℕ → Bool} {tells : Bool} {blocks : �
   pub answered-plain : (asked : Option Asked) (a : Asked) → asked ≡ Some a → IsPlain a
       → DoneBy passes (device-of tells blocks) (record { list = None; files = told; script = left }) (end-of journal status said)
       (world-of old taken_before faults_before) (world-of new taken_after faults_after) rest a
-      → (IsTrue (leaves_on (Some a)) → status ≡ 0 → IsTrue new.power)
       → (IsFalse (asks_beyond (Some a)) → IsFalse (is_beyond_model said)) → (IsFalse (asks_source (Some a)) → source_after ≡ source)
       → (IsFalse (asks_package (Some a)) → IsFalse (asks_files (Some a)))
       → (IsFalse (asks_files (Some a)) → (files_after ≡ files) × (faults_after.files ≡ faults_before.files)) → Later faults_before faults_after
       → Answered passes (device-of tells blocks) (inputs-of asked None told left) (end-of journal status said)
       (world-of old taken_before faults_before) (world-of new taken_after faults_after) rest files files_after source source_after
-  answered-plain asked a is plain does on quiet stays packs kept later =
+  answered-plain asked a is plain does quiet stays packs kept later =
       let g : Given = record { list = None; files = told; script = left } in
       let end : Ending Note = end-of journal status said in
       let before : World = world-of old taken_before faults_before in
@@ -208,7 +194,6 @@ module _ {H I : Type 0} {passes : List ℕ → Bool} {tells : Bool} {blocks : �
         formats = λ banks rows file. by (ask.format banks rows file);
         soaks = λ seed rounds. by (ask.soak seed rounds);
         serves = by ask.serve;
-        power = on;
         note = quiet;
         reads = record {
           takes = λ runs. absurd (none-not-source (sym plain.2 ∙ runs));
@@ -235,7 +220,6 @@ module _ {H I : Type 0} {passes : List ℕ → Bool} {tells : Bool} {blocks : �
     formats = λ banks rows file other. absurd (none-some (ask.format banks rows file) asked words other);
     soaks = λ seed rounds other. absurd (none-some (ask.soak seed rounds) asked words other);
     serves = λ other. absurd (none-some ask.serve asked words other);
-    power = λ leaves zero. absurd (not-done usage_line 1 status taken_before taken_after faults_before.sink faults_after.sink (λ one. absurd (omega arith)) prints zero);
     note = λ other. ap is_beyond_model is;
     reads =
         reads-none asked list (λ runs. absurd (none-not-source (sym (ap in_short words) ∙ runs))) (λ unlisted. kept) (λ whole. counted)
@@ -252,9 +236,8 @@ module _ {H I : Type 0} {passes : List ℕ → Bool} {tells : Bool} {blocks : �
     shows = λ words. starved-shows tells (record { list = list; files = told; script = left }) old new status (noted said) journal taken_before taken_after faults_before faults_after same unarmed none nine (ap noted is) stuck;
     formats = λ banks rows file words.
         starved-formats passes tells (record { list = list; files = told; script = left }) file (record { banks = banks; rows = rows }) blocks old new status said journal taken_before taken_after faults_before faults_after same unarmed none is nine stuck still;
-    soaks = λ seed rounds words. (soak.starved none same nine is stuck, tt);
+    soaks = λ seed rounds words. soak.starved none same nine is stuck;
     serves = λ words. serve.starved none same (unread, once) nine (ap noted is) stuck;
-    power = λ leaves zero. absurd (omega (arith, zero, nine));
     note = λ other. ap is_beyond_model is;
     reads =
         reads-none asked list
@@ -284,7 +267,6 @@ module _ {H I : Type 0} {passes : List ℕ → Bool} {tells : Bool} {blocks : �
         refused-soaks tells (record { list = Some name; files = told; script = left }) seed rounds blocks journal status said old new taken_before taken_after faults_before faults_after planned line (noted met) none same (ap is_beyond_model is ∙ beyond) (ap noted is)
         (why left (Some (ask.soak seed rounds))) prints;
     serves = λ words. refused-serves passes tells (record { list = Some name; files = told; script = left }) old new status (noted said) journal taken_before taken_after faults_before faults_after planned line (noted met) rest none same (ap noted is) (why left (Some ask.serve)) prints unread once;
-    power = λ leaves zero. absurd (not-done line planned status taken_before taken_after faults_before.sink faults_after.sink some prints zero);
     note = λ other. ap is_beyond_model is ∙ beyond;
     reads =
         reads-none asked (Some name) (λ runs. takes-nothing journal status left rest unread none some_less lacks_some)
@@ -307,7 +289,6 @@ module _ {H I : Type 0} {passes : List ℕ → Bool} {tells : Bool} {blocks : �
             formats-with-list passes tells mid_told told name left file (record { banks = banks; rows = rows }) blocks old new status said journal taken_before taken_after faults_before mid faults_after same good counted at_source at_sink unarmed (a.formats banks rows file words);
         soaks = λ seed rounds words. soaks-with-list tells mid_told told name left seed rounds blocks journal status said old new taken_before taken_after faults_before mid faults_after good counted at_source at_sink (a.soaks seed rounds words);
         serves = λ words. serves-with-list passes tells mid_told told name left old new status (noted said) journal taken_before taken_after faults_before mid faults_after rest same good counted at_source at_sink (a.serves words);
-        power = a.power;
         note = a.note;
         reads = record {
           takes = a.reads.takes;
@@ -322,11 +303,3 @@ module _ {H I : Type 0} {passes : List ℕ → Bool} {tells : Bool} {blocks : �
           later_sink = omega (arith, at_sink, a.reads.later_sink);
         };
       }
-
-  -- by equal words
-  pub answered-at : (asked other : Option Asked) (list named : Option (List ℕ)) → asked ≡ other → list ≡ named
-      → Answered passes (device-of tells blocks) (inputs-of other named told left) (end-of journal status said) (world-of old taken_before faults_before) (world-of new taken_after faults_after) rest files files_after source source_after
-      → Answered passes (device-of tells blocks) (inputs-of asked list told left) (end-of journal status said) (world-of old taken_before faults_before) (world-of new taken_after faults_after) rest files files_after source source_after
-  answered-at asked other list named words is answered =
-      subst (λ (l : Option (List ℕ)). Answered passes (device-of tells blocks) (inputs-of asked l told left) (end-of journal status said) (world-of old taken_before faults_before) (world-of new taken_after faults_after) rest files files_after source source_after) (sym is)
-      (subst (λ (x : Option Asked). Answered passes (device-of tells blocks) (inputs-of x named told left) (end-of journal status said) (world-of old taken_before faults_before) (world-of new taken_after faults_after) rest files files_after source source_after) (sym words) answered)

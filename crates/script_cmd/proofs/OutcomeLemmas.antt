@@ -13,7 +13,7 @@ use Rattle.fwu_model.specs.Reply as reply
 use Rattle.early_boot.specs.{EndsBy.StartsPermitted, Ends.Ended, Ends.booted}
 use Rattle.image_check.specs.Passed.{HasPackage}
 use Rattle.script_turns.specs.{Powered.TurnMoment, Replies.Replies, Turning.Turns, Runs.Follows}
-use Rattle.script_cmd.specs.ByList.{ReadsList}
+use Rattle.script_cmd.specs.Handed.{ReadsList}
 use Rattle.script_cmd.specs.Outcomes.{BadListIsNone, ListIsSome, MissingListIsNone, NoMetadataIsNone, NothingFollowsTheSink, NothingIsArmed, NothingIsPassedOver, NothingIsTouched, UsageLineIsOfUsage, UsageReadsNoSource, BootsArePermitted, IsOfPackage}
 
 same-name : (x y : List ℕ) → ◌≡◌ {A = Option (List ℕ)} (Some x) (Some y) → x ≡ y
@@ -23,7 +23,7 @@ pub nothing-is-passed-over : NothingIsPassedOver
 nothing-is-passed-over passes tells inputs end old new bytes calls reads p = sym ((p.ends.does calls reads).all_calls refl)
 
 pub nothing-is-touched : NothingIsTouched
-nothing-is-touched passes tells inputs end old new p = p.turns.device.untouched refl
+nothing-is-touched passes tells inputs end old new p = p.turns.untouched refl
 
 pub nothing-is-armed : NothingIsArmed
 nothing-is-armed passes tells inputs end old new p = p.ends.made
@@ -131,4 +131,4 @@ module _ (passes : List ℕ → Bool) (tells : Bool) (files : Option Directory) 
 
 pub boots-are-permitted : BootsArePermitted
 boots-are-permitted passes tells inputs end old new p n t bank version trials counter fallback at boots is =
-    by-journal passes tells inputs.files t bank version trials counter fallback boots is end.journal n old.flash _ _ _ p.turns.replies.follows at
+    by-journal passes tells inputs.files t bank version trials counter fallback boots is end.journal n old.flash _ _ _ p.turns.follows at

@@ -2,7 +2,7 @@
 use Rattle.std.proofs.Common.{ℕ, Bool, List, Option, subst}
 use Rattle.fwu_model.specs.{declared.kinds.Note.Note, Causes.EndsAs}
 use Rattle.fwu_model.proofs.Complete.{runs-are-complete}
-use Rattle.script_runs.specs.{Ending.Ending, Ending.World, Refusing.in_short, Ways.Way}
+use Rattle.script_runs.specs.{Ending.Ending, Ending.World, Sourced.in_short, Ways.Way}
 use Rattle.script_cmd.specs.Handed.{Inputs}
 use Rattle.script_cmd.specs.Promises.{CompleteHolds, WaysArePromised, WaysHold, given_to, outcome}
 use Rattle.script_cmd.proofs.PromiseHeadline.{ways-keep-the-headline, sound-start}

@@ -19,10 +19,10 @@ use Rattle.early_boot.specs.EndsBy.{Chose}
 use Rattle.host_io.specs.Contents.{Directory}
 use Rattle.fwu_words.specs.Order.{Asked}
 use Rattle.fwu_words.specs.Order as ask
-use Rattle.script_runs.specs.{Refusing.in_short, Ending.Ending, Ending.World}
+use Rattle.script_runs.specs.{Sourced.in_short, Ending.Ending, Ending.World}
 use Rattle.script_turns.specs.Boots.{BootsFrom, ChoseBank, ChoseNone}
 use Rattle.script_turns.specs.{Powered.TurnMoment, Powered.at, Runs.Ran, Runs.calls_of}
-use Rattle.script_runs.specs.Running.{ScriptEnded, status_of_last, note_of_last, last_turn}
+use Rattle.script_runs.specs.Ending.{ScriptEnded, status_of_last, note_of_last, last_turn}
 use Rattle.script_runs.specs.Ways.{Given, Way, Refuses, usage, too_long, bad_script, starved, refused, ran}
 use Rattle.script_runs.proofs.{TopSources.by-plan, Making.boot-is-script, Making.boot-script, Making.same-calls}
 use Rattle.script_cmd.specs.{Handed.Inputs, Promises.BootWordBy, Promises.BootWordHolds, Promises.given_to}
@@ -68,16 +68,14 @@ module _ (passes : List ℕ → Bool) (image : List ℕ) (status : ℕ) (noted :
         let h = chosen x.layout x.state (Some b) x.chose E s is test shows in
         let same : b ≡ k = same_Some b k (sym h.1 ∙ some) in (
           (says (reply.Booted b v trials counter fallback) replied).0,
-          record {
-            turn = t;
-            first = first;
-            trials = trials;
-            counter = counter;
-            fallback = fallback;
-            reply_is = replied ∙ ap (λ (n : ℕ). reply.Booted b n trials counter fallback) x.version_is
-                ∙ ap (λ (y : State). reply.Booted b (version (booted_package y b)) trials counter fallback) h.0
-                ∙ ap (λ (n : ℕ). reply.Booted n (version (booted_package s n)) trials counter fallback) same;
-          },
+          t,
+          first,
+          trials,
+          counter,
+          fallback,
+          replied ∙ ap (λ (n : ℕ). reply.Booted b n trials counter fallback) x.version_is
+              ∙ ap (λ (y : State). reply.Booted b (version (booted_package y b)) trials counter fallback) h.0
+              ∙ ap (λ (n : ℕ). reply.Booted n (version (booted_package s n)) trials counter fallback) same,
         );
   }
 

@@ -14,9 +14,9 @@ use Rattle.fwu_model.specs.Causes.{EndsAs, Faults, LossesAreCounted, LacksList, 
 use Rattle.fwu_model.specs.Causes as noted_alone
 use Rattle.host_io.specs.{Contents.Directory, Printed.Prints, Printed.all, Printed.front, Printed.nothing}
 use Rattle.fwu_words.specs.Order.{Asked}
-use Rattle.script_runs.specs.{Refusing.in_short, Ending.Ending, Ending.World}
+use Rattle.script_runs.specs.{Sourced.in_short, Ending.Ending, Ending.World}
 use Rattle.script_turns.specs.{Powered.TurnMoment, Powered.at, Runs.Ran}
-use Rattle.script_runs.specs.Running.{ScriptEnded, Printed, status_of_last, note_of_last, last_turn}
+use Rattle.script_runs.specs.Ending.{ScriptEnded, Printed, status_of_last, note_of_last, last_turn}
 use Rattle.script_runs.specs.Ways.{Given, Way, HasGoodList, AsksTurns, HasCalls, Refuses, usage, not_read, list_not_read, too_long, bad_script, bad_list, starved, refused, ran}
 use Rattle.script_runs.proofs.Making.{asks-turns, same-calls}
 use Rattle.script_runs.proofs.TopSources.{raised-rose, printed-plan, by-plan, printed-rose}

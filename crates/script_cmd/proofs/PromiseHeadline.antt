@@ -13,7 +13,7 @@ use Rattle.fwu_model.specs.Call as call
 use Rattle.fwu_model.specs.Asked as model
 use Rattle.fwu_model.proofs.{Frame.calm-stays, Frame.start-is-calm, Selects.runs-select}
 use Rattle.fwu_formats.proofs.Read.{layout-fits}
-use Rattle.script_runs.specs.{Refusing.in_short, Ending.Ending, Ending.World}
+use Rattle.script_runs.specs.{Sourced.in_short, Ending.Ending, Ending.World}
 use Rattle.script_runs.specs.Ways.{HasCalls, Way, starved, refused, ran}
 use Rattle.script_turns.specs.{Powered.TurnMoment, Powered.ShowsCondition, Powered.at, Runs.Ran, Runs.StartsSound, Runs.calls_of}
 use Rattle.script_runs.proofs.{Making.boot-is-script, Making.same-calls, TopSources.done-planned}

@@ -12,7 +12,7 @@ use Rattle.gpt_core.specs.{Repair.HeadersGuarded, Table.DecidesTable, Table.Tabl
 use Rattle.gpt_core.proofs.{Leaving.repair-keeps, Leaving.repair-leaves, Leaving.repair-spares, Stepping.image_is_now}
 use Rattle.fwu_model.specs.{Call.Call, State.State, Sound.Setting, Causes.Faults, Causes.IsServed, Causes.may_end_before, Contract.Premises}
 use Rattle.fwu_model.specs.Headline.{Headline, made_after}
-use Rattle.script_runs.specs.{declared.done.Note.Note, Refusing.in_short, Ways.Given, Ways.Way}
+use Rattle.script_runs.specs.{declared.done.Note.Note, Sourced.in_short, Ways.Given, Ways.Way}
 use Rattle.script_runs.specs.ByTable.{Starts, StopsMending, Wakes, flash_fault_line, lacked_by, lacked_in, lacked_of, no_table_line, seen_at}
 use Rattle.script_runs.specs.declared.done.Note.TheVariants as own
 use Rattle.script_runs.specs.Ending.{noted, is_beyond_model, Device, Ending, World, in_model}
@@ -21,7 +21,7 @@ use Rattle.script_runs.specs.Ways as way
 use Rattle.script_runs.specs.WaysByTable.{WayByTable, untouched, starved, lacked, stopped, ran}
 use Rattle.script_runs.proofs.{TableOpens.woken-clean, TableOpens.woken-now, TableOpens.woken-same, TableWays.not-nothing}
 use Rattle.script_turns.proofs.RunTurns.{rose-before}
-use Rattle.script_cmd.specs.Promises.{given_to, outcome, CompleteByTable, HeadlineByTable, KeepsFlash, KeptByTable, NotBegun, PromisedByTable, RunsByTable, TableGives}
+use Rattle.script_cmd.specs.Promises.{given_to, outcome, CompleteByTable, HeadlineByTable, KeepsFlash, KeptByTable, NotBegun, PromisedByTable, RunsByTable, TableGives, seen_in}
 use Rattle.script_cmd.specs.Handed.{Inputs}
 use Rattle.script_cmd.proofs.{PromiseAll.promised, PromiseEnds.why-planned, PromiseAll.ways-are-complete, PromiseTurns.none-ended}
 
@@ -86,7 +86,7 @@ module _ (passes : List ℕ → Bool) (device : Device) (inputs : Inputs) (end :
     touches = touches;
     unwritten = repair-spares device.blocks starts.has.table starts.has.which p old.flash.writes start.writes starts.has.gives starts.touches;
     seen = start-seen p start starts;
-    promises = promised passes device.tells inputs (in_model end) (record old { flash = seen_at p start }) (record new { flash = seen_at p new.flash })
+    promises = promised passes device.tells inputs (in_model end) (record old { flash = seen_at p start }) (seen_in p new)
         (way.ran calls on reads.good reads.asks reads.has does ended printed);
     plain = beyond;
   }
@@ -194,8 +194,8 @@ module _ (passes : List ℕ → Bool) (device : Device) (inputs : Inputs) (end :
     selects = holds.selects;
   }
 
-  headline-by-table : Ends → HeadlineByTable passes device inputs end old.flash new.flash
-  headline-by-table w told p E s calls clean gives premises asks began =
+  headline-by-table : Ends → HeadlineByTable passes device inputs end old new
+  headline-by-table w p clean gives began told E s calls premises asks =
       let run = runs-by-table w began in
       let found = found-places told clean p run.places run.start run.starts gives in
       let holds = run.promises.headline told E s calls (start-premises told clean p run.places run.start run.starts gives E s premises) asks in
@@ -223,7 +223,7 @@ module _ (passes : List ℕ → Bool) (device : Device) (inputs : Inputs) (end :
 
   -- a way on which nothing was touched, seen through places
   untouched-seen : (p : Places) → end.status ≢ 0 → end.journal ≡ [] → Way passes device.tells inputs.asked (given_to inputs) (in_model end) old new
-      → Way passes device.tells inputs.asked (given_to inputs) (in_model end) (record old { flash = seen_at p old.flash }) (record new { flash = seen_at p new.flash })
+      → Way passes device.tells inputs.asked (given_to inputs) (in_model end) (seen_in p old) (seen_in p new)
   untouched-seen p other none (way.starved empty same nine quiet same_bytes) = way.starved empty (ap (seen_at p) same) nine quiet same_bytes
   untouched-seen p other none (way.refused planned line empty same why prints) = way.refused planned line empty (ap (seen_at p) same) why prints
   untouched-seen p other none (way.ran calls on good asks has does ended printed) = absurd (none-ended calls end.journal end.status (noted end.noted) none other ended)
@@ -232,20 +232,20 @@ module _ (passes : List ℕ → Bool) (device : Device) (inputs : Inputs) (end :
   gives-all image p gives = ap (lacked_of device.blocks) gives.decides ∙ ap lacked_by gives.gives
 
   complete-by-table : Ends → CompleteByTable passes device inputs end old new
-  complete-by-table (untouched none same other beyond w) told p E s calls script clean gives premises asks is served no_cut =
-      ways-are-complete passes device.tells inputs (in_model end) (record old { flash = seen_at p old.flash }) (record new { flash = seen_at p new.flash }) (untouched-seen p other none w) told E s calls script premises asks is served
-  complete-by-table (starved calls reads none looks nine quiet same) told p E s asked_calls script clean gives premises asks is served no_cut = inr nine
-  complete-by-table (lacked calls why reads none looks lacks noted_is prints) told p E s asked_calls script clean gives premises asks is served no_cut =
+  complete-by-table (untouched none same other beyond w) p clean gives no_cut =
+      ways-are-complete passes device.tells inputs (in_model end) (seen_in p old) (seen_in p new) (untouched-seen p other none w)
+  complete-by-table (starved calls reads none looks nine quiet same) p clean gives no_cut told E s asked_calls script premises asks is served = inr nine
+  complete-by-table (lacked calls why reads none looks lacks noted_is prints) p clean gives no_cut told E s asked_calls script premises asks is served =
       let one = gives-all old.flash.told.now p gives in
       let other : lacked_in device.blocks old.flash.told.now ≡ Some why = subst (λ (image : List ℕ). lacked_in device.blocks image ≡ Some why) (woken-now old.flash.told new.flash.told clean (looks.wakes told)) (lacks told) in
       absurd (cc)
-  complete-by-table (stopped calls reads none stops noted_is prints) told p E s asked_calls script clean gives premises asks is served no_cut = absurd (caused stops.cause)
+  complete-by-table (stopped calls reads none stops noted_is prints) p clean gives no_cut told E s asked_calls script premises asks is served = absurd (caused stops.cause)
     where
       caused : Rose old.flash.counts.faults new.flash.counts.faults ⊎ Rose old.flash.counts.cuts new.flash.counts.cuts → ⊥
       caused (inl fault) = served.no_fault fault
       caused (inr cut) = no_cut none cut
-  complete-by-table (ran calls q start on reads starts does beside touches ended beyond printed) told p E s asked_calls script clean gives premises asks is served no_cut =
-      (promised passes device.tells inputs (in_model end) (record old { flash = seen_at q start }) (record new { flash = seen_at q new.flash })
+  complete-by-table (ran calls q start on reads starts does beside touches ended beyond printed) p clean gives no_cut told E s asked_calls script premises asks is served =
+      (promised passes device.tells inputs (in_model end) (record old { flash = seen_at q start }) (seen_in q new)
       (way.ran calls on reads.good reads.asks reads.has does ended printed)).complete told E s asked_calls script
       (start-premises told clean p q start starts gives E s premises) asks is (served-from asked_calls p q start script starts.waits.falls.faults served)
 

@@ -5,7 +5,7 @@ use Rattle.std.proofs.lemmas.Option.{same_Some}
 use Rattle.fwu_model.specs.{Reply.Reply, Reply.Turn, declared.kinds.Note.Note, Wrote.may_lack, Wrote.ends_early, Causes.status_by}
 use Rattle.fwu_model.specs.{Call.Call, Calm.IsAtRest, Calm.IsGuarded, Run.ends_run}
 use Rattle.fwu_model.specs.Reply as reply
-use Rattle.script_runs.specs.{Running.status_of_last, Running.last_turn, Running.ScriptEnded, Ending.Ending, Ending.World}
+use Rattle.script_runs.specs.{Ending.status_of_last, Ending.last_turn, Ending.ScriptEnded, Ending.Ending, Ending.World}
 use Rattle.flash_core.specs.{Told.Told, Told.NothingDirty, May.Guards}
 use Rattle.fwu_words.specs.Order.{Asked}
 use Rattle.agent_machine.specs.Fields.{Fields}
@@ -14,7 +14,7 @@ use Rattle.script_turns.specs.{Powered.IsSafe, Powered.TurnMoment, Powered.SameD
 use Rattle.script_runs.specs.Ways.{Given, Way, starved, refused, ran}
 use Rattle.flash_commands.specs.Soaking.{EndsNone}
 use Rattle.flash_commands.proofs.FormatFlash.{clean-sure}
-use Rattle.script_cmd.specs.Promises.{RunLeaves, RanHolds}
+use Rattle.script_cmd.specs.Promises.{RanHolds}
 
 -- ---- the last turn
 
@@ -117,9 +117,6 @@ free-none old unarmed = record { armed = unarmed; reached = refl; lost = λ t in
     no-turn : (t : Turn) → Contains [] t → ⊥
     no-turn t (k, below, is) = omega arith
 
-none-leaves : (tells : Bool) (old : TurnMoment) → RunLeaves tells [] old old
-none-leaves tells old = record { untouched = λ none. same-device old; power = refl; once = omega arith; guard = λ told. refl; free = λ unarmed none. free-none old unarmed; due = inl (omega arith) }
-
 -- ---- what a loss may harm
 
 clean-guarded : (t : Told) → NothingDirty t → IsGuarded t
@@ -140,14 +137,17 @@ no-first t is = cc
 
 none-holds : (passes : List ℕ → Bool) (tells : Bool) (files : Option Directory) (old new : World) → RanHolds passes tells files [] old (record new { flash = old.flash })
 none-holds passes tells files old new = record {
-  replies = record {
-    on = old.flash.on;
-    to = old.faults.files;
-    follows = (refl, refl);
-    touches = λ off. record { layout_still = refl; marks_still = refl; unbooted = λ none. (off, refl); banks = λ one f is b out beside. refl };
-    ends = λ some. absurd (some refl);
-  };
-  device = none-leaves tells old.flash;
+  on = old.flash.on;
+  to = old.faults.files;
+  follows = (refl, refl);
+  ends = λ some. absurd (some refl);
+  touches = λ off. record { layout_still = refl; marks_still = refl; unbooted = λ none. (off, refl); banks = λ one f is b out beside. refl };
+  untouched = λ none. same-device old.flash;
+  power = refl;
+  once = omega arith;
+  guard = λ told. refl;
+  free = λ unarmed none. free-none old.flash unarmed;
+  due = inl (omega arith);
   first = λ told clean t is boots. absurd (no-first t is);
   guarded = λ told clean guards. (clean-guarded old.flash.told clean, (λ power. clean-rests old.flash.told clean guards));
 }
@@ -162,19 +162,21 @@ idle-holds passes tells files journal old new empty same =
 pub ran-holds : (passes : List ℕ → Bool) (tells : Bool) (files : Option Directory) (journal : List Turn) (on : Option Fields) (to : ℕ) (old new : World) → (journal ≢ [] → to ≡ new.faults.files)
     → Ran passes tells files journal old.flash (at on new.flash.told new.flash.writes new.flash.counts new.flash.armed new.flash.power) old.faults.files to → RanHolds passes tells files journal old new
 ran-holds passes tells files journal on to old new after turns = record {
-  replies = record { on = on; to = to; follows = turns.follows; touches = λ off. turns.touches; ends = after };
-  device = record {
-    untouched = λ empty.
-        let same = turns.untouched empty in
-        record { told = ap (λ (m : TurnMoment). m.told) same; writes = ap (λ (m : TurnMoment). m.writes) same; counts = ap (λ (m : TurnMoment). m.counts) same; armed = ap (λ (m : TurnMoment). m.armed) same; power = ap (λ (m : TurnMoment). m.power) same };
-    power = turns.power;
-    once = turns.once;
-    guard = turns.guard;
-    free = λ unarmed none.
-        let ran_free = turns.free unarmed none in
-        record { armed = ran_free.armed; reached = ran_free.reached; lost = ran_free.lost };
-    due = turns.due;
-  };
+  on = on;
+  to = to;
+  follows = turns.follows;
+  ends = after;
+  touches = λ off. turns.touches;
+  untouched = λ empty.
+      let same = turns.untouched empty in
+      record { told = ap (λ (m : TurnMoment). m.told) same; writes = ap (λ (m : TurnMoment). m.writes) same; counts = ap (λ (m : TurnMoment). m.counts) same; armed = ap (λ (m : TurnMoment). m.armed) same; power = ap (λ (m : TurnMoment). m.power) same };
+  power = turns.power;
+  once = turns.once;
+  guard = turns.guard;
+  free = λ unarmed none.
+      let ran_free = turns.free unarmed none in
+      record { armed = ran_free.armed; reached = ran_free.reached; lost = ran_free.lost };
+  due = turns.due;
   first = turns.first;
   guarded = λ told clean guards. safe-guarded new.flash.power new.flash.told (turns.safe told clean guards);
 }

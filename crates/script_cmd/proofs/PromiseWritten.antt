@@ -6,7 +6,7 @@ use Rattle.fwu_model.specs.{declared.kinds.Note.Note, Reply.Turn, Text.text, All
 use Rattle.fwu_model.specs.declared.kinds.Note.TheVariants as note
 use Rattle.fwu_model.specs.Wrote.{Wrote, StopsAlone, may_lack, not_read_line, usage_line, too_long_line, bad_script_line, bad_list_line, IsBadScript, IsBadList}
 use Rattle.fwu_words.specs.Order.{Asked}
-use Rattle.script_runs.specs.{Ending.Ending, Ending.World, Running.WritesLines}
+use Rattle.script_runs.specs.{Ending.Ending, Ending.World, Ending.WritesLines}
 use Rattle.host_io.specs.Printed.{Prints, all, front, nothing}
 use Rattle.script_runs.specs.Ways.{Given, Way, Refuses, usage, not_read, too_long, bad_script, bad_list, starved, refused, ran}
 use Rattle.script_runs.proofs.TopWays.{end-of}

@@ -1,9 +1,9 @@
 -- What a serving took, did and wrote, by how it ended.
 use Rattle.std.proofs.Common.{◌≡◌, ◌≢◌, ◌==◌, ◌&&◌, not, cond, if◌then◌else◌, ◌≤◌, ℕ, ◌+◌, Bool, List, ◌∷◌, ◌++◌, length, length-append, take, drop, Option, Some, None, Result, Ok, Err, refl, sym, ap, subst, ◌∙◌, arith, append-nil, append_assoc, inl, inr}
-use Rattle.std.specs.Prelude.{IfSome, IsTrue, IsFalse, false, true, map, slice_get, [], Contains, ◌<◌}
+use Rattle.std.specs.Prelude.{IfSome, IsTrue, IsFalse, false, true, map, slice_get, slice_index_or, [], All, Contains, ◌<◌}
 use Rattle.std.proofs.{lemmas.Bool.cases_eq, lemmas.Bool.false≢true, lemmas.List.length-map, lemmas.List.map-append}
 use Rattle.std.proofs.lemmas.List.{get_or_append_left, get_or_push, length_push}
-use Rattle.std.proofs.lemmas.List.Elements.{Contains-append_right}
+use Rattle.std.proofs.lemmas.List.Elements.{All-contains, All-nil, All-push, All-tail, Contains-get_or}
 use Rattle.std.proofs.lemmas.Option.{get_or_from_slice_get, same_Some, slice_get_within}
 use Rattle.std.specs.Io.KnownBytes.{Appends, Consumes, IsAtEnd}
 use Rattle.std.proofs.KnownBytes.{Appends-nil, Appends-trans, Consumes-nil, Consumes-trans, Consumes-whole}
@@ -26,8 +26,8 @@ use Rattle.serving.specs.Going.{ServesRequests, ServeEnds, TakesFrames, at_the_e
 use Rattle.serving.specs.Scene.{At, Port, RunAt, Scene, begin_at, unasked}
 use Rattle.serving.specs.Written.{AnswersRequests, acting, answered_numbers, called, calls_for, frame_of, messages_of, all_frames}
 use Rattle.serving.specs.declared.ends.ServeEnd.TheVariants as end
-use Rattle.serving.proofs.{Starts.goes-more, Starts.goes-none, Steps.acting-more, Steps.frame-last, Steps.length-messages, Steps.messages-more}
-use Rattle.script_runs.specs.Running.{last_turn}
+use Rattle.serving.proofs.{Starts.goes-none, Steps.acting-more, Steps.frame-last, Steps.length-messages, Steps.messages-more}
+use Rattle.script_runs.specs.Ending.{last_turn}
 use Rattle.script_runs.proofs.TopSources.{later}
 use Rattle.script_cmd.specs.ServedBy.{last_frame, reads_no_more}
 use Rattle.script_cmd.proofs.PromiseTurns.{last-push, none-last, some-from}
@@ -79,8 +79,14 @@ no-answer : (e : ServeEnd) → ◌≡◌ {A = Result (Unit {0}) ServeEnd} (Err e
 no-answer e is = cc
 
 -- behind each of them it went on
+abbrev Goes : Turn → Type 0
+Goes t = end_by t.reply ≡ Ok tt
+
 abbrev pub AllGo : List Turn → Type 0
-AllGo turns = (t : Turn) → Contains turns t → end_by t.reply ≡ Ok tt
+AllGo turns = All Goes turns
+
+entered : {turns : List Turn} → ((t : Turn) → Contains turns t → Goes t) → AllGo turns
+entered {turns} goes k d lt = goes (slice_index_or turns k d) (Contains-get_or turns k d lt)
 
 -- one by which it ends is the last
 abbrev pub EndsLast : ServeEnd → List Turn → Type 0
@@ -91,7 +97,7 @@ in-at : (journal : List Turn) (n : ℕ) (t : Turn) → slice_get journal n ≡ S
 in-at journal n t at = (n, slice_get_within journal n t at, get_or_from_slice_get journal n t t at)
 
 none-ends : (e : ServeEnd) (journal : List Turn) → AllGo journal → EndsLast e journal
-none-ends e journal goes n t x at ends = absurd (no-answer x (sym ends ∙ goes t (in-at journal n t at)))
+none-ends e journal goes n t x at ends = absurd (no-answer x (sym ends ∙ All-contains Goes journal t goes (in-at journal n t at)))
 
 one-ends : (e : ServeEnd) (before : List Turn) (t : Turn) → AllGo before → end_by t.reply ≡ Err e → EndsLast e (before ++ t ∷ [])
 one-ends e before t goes by n u x at ends =
@@ -105,7 +111,7 @@ one-ends e before t goes by n u x at ends =
           (omega (arith, long, last), same-end x e (sym ends ∙ ap (λ (y : Turn). end_by y.reply) (sym same) ∙ by))
       | inr differs ↦
           let inside : n < length before = omega (arith, long, within, differs) in
-          absurd (no-answer x (sym ends ∙ goes u (n, inside, sym (get_or_append_left before (t ∷ []) u n inside) ∙ is)))
+          absurd (no-answer x (sym ends ∙ All-contains Goes before u goes (n, inside, sym (get_or_append_left before (t ∷ []) u n inside) ∙ is)))
     ]
 
 one-long : (journal : List Turn) → drop 1 journal ≡ [] → length journal ≤ 1
@@ -226,7 +232,7 @@ idle from to e journal before after still same goes fails some one by = record {
   begin = (drop 1 journal, refl);
   all_turns = λ is. absurd (goes is);
   calls = refl;
-  goes = λ t has. let below = has.1 in absurd (omega (arith, below));
+  goes = All-nil Goes;
   all_calls = ([], ap (λ (ts : List Turn). calls_of ts ++ []) one);
   took = subst (λ (o : Option (List ℕ)). Appends before o []) (sym same) (Appends-nil before);
   none = λ differs. refl;
@@ -346,7 +352,7 @@ new-last E number c e turns old new early is before (answered bytes one exchange
     ([], ap (λ (x : Call). x ∷ []) one.one.turns.call_is)
     (λ u last ends. false≢true (sym (goes-none E.files E.faults E.faults c t.reply one.one.unsent one.one.turns.unread one.goes)
     ∙ ap (λ (x : Turn). ends_run x.reply) (pushed old new t u one.one.kept last) ∙ ends))
-    (λ goes. subst AllGo (sym one.one.kept) (goes-more old.run.journal t goes one.goes)) puts
+    (λ goes. subst AllGo (sym one.one.kept) (All-push Goes old.run.journal t goes one.goes)) puts
 new-last E number c e turns old new early is before (stopped why stops_by same_end exchange same) =
     stop-last E c e turns old new before (subst (λ (y : ServeEnd). OneStop E c y old.run new.run) (same-end e why same_end) stops_by) same
 
@@ -407,7 +413,7 @@ module _ (E : Scene) (t : Turn) (start : TurnMoment) (old new : At) (e : ServeEn
         begin = ([], append-nil goes.turns ∙ sym behind);
         all_turns = λ is. sym behind;
         calls = goes.answers.calls_are;
-        goes = λ u has. goes.goes u (subst (λ (j : List Turn). Contains j u) (sym goes.journal_is) (Contains-append_right (t ∷ []) goes.turns u has));
+        goes = All-tail Goes t goes.turns (subst AllGo goes.journal_is (entered goes.goes));
         all_calls = ([], append-nil (calls_of (drop 1 new.run.journal)) ∙ ap calls_of behind ∙ goes.answers.calls_are ∙ ap calls_for (sym whole));
         took = subst (Appends old.sink.bytes new.sink.bytes) (sym (append-nil (all_frames (messages_of goes.turns) (answered_numbers 0 bodies)))) goes.took;
         none = λ differs. refl;
@@ -415,7 +421,7 @@ module _ (E : Scene) (t : Turn) (start : TurnMoment) (old new : At) (e : ServeEn
         some = λ differs none. let all_of : new.run.journal ≡ t ∷ goes.turns = goes.journal_is in cc;
         unread = λ none. absurd (let all_of : new.run.journal ≡ t ∷ goes.turns = goes.journal_is in cc);
         first = λ u x at ends. absurd (goes-first new.run.journal goes.turns u x goes.journal_is on at ends);
-        ends = none-ends e new.run.journal goes.goes;
+        ends = none-ends e new.run.journal (entered goes.goes);
         decides = λ u last ends. absurd (none-last new.run.journal goes.none u last ends);
       }
 
@@ -451,7 +457,7 @@ module _ (E : Scene) (t : Turn) (start : TurnMoment) (old new : At) (e : ServeEn
         begin = (last.more, sym behind);
         all_turns = λ is. absurd (last.goes is);
         calls = goes.answers.calls_are;
-        goes = λ u has. goes.goes u (subst (λ (j : List Turn). Contains j u) (sym goes.journal_is) (Contains-append_right (t ∷ []) goes.turns u has));
+        goes = All-tail Goes t goes.turns (subst AllGo goes.journal_is (entered goes.goes));
         all_calls = (
           last.calls.0,
           ap (λ (ts : List Turn). calls_of ts ++ last.calls.0) behind
@@ -467,7 +473,7 @@ module _ (E : Scene) (t : Turn) (start : TurnMoment) (old new : At) (e : ServeEn
         some = λ differs none. cc;
         unread = λ none. absurd (cc);
         first = λ u x at ends. absurd (goes-first new.run.journal (goes.turns ++ last.more) u x all_of on at ends);
-        ends = last.ends goes.goes;
+        ends = last.ends (entered goes.goes);
         decides = last.decides;
       }
 

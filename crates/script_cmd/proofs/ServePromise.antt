@@ -1,11 +1,11 @@
 -- All that a serving promises, whichever way it ended.
-use Rattle.std.proofs.Common.{◌≡◌, ◌≢◌, inl, inr, ℕ, Bool, List, ◌∷◌, ◌++◌, Contains, length, drop, Option, Some, None, Err, refl, sym, ap, subst, ◌∙◌, arith, append-nil, slice_get, ◌+◌, IsTrue, IsFalse, []}
+use Rattle.std.proofs.Common.{◌≡◌, ◌≢◌, ◌⊎◌, ◌≤◌, ◌<◌, ◌↔◌, inl, inr, ℕ, Bool, List, ◌∷◌, ◌++◌, Contains, length, drop, Option, Some, None, Err, refl, sym, ap, subst, ◌∙◌, arith, append-nil, slice_get, ◌+◌, IsTrue, IsFalse, []}
 use Rattle.std.specs.Io.KnownBytes.{Appends, Consumes}
 use Rattle.std.proofs.{KnownBytes.Appends-nil, KnownBytes.Consumes-nil, lemmas.Bool.false≢true}
 use Rattle.std.proofs.lemmas.List.Elements.{Contains-get_or}
 use Rattle.host_io.specs.Printed.{Prints}
 use Rattle.wire_frames.specs.Frames.{Splits, frames}
-use Rattle.wire_frames.specs.declared.stream.FrameStop.{FrameStop}
+use Rattle.wire_frames.specs.{Stream.most_bytes, declared.stream.FrameStop.FrameStop}
 use Rattle.wire_frames.specs.declared.stream.FrameStop.TheVariants as stop
 use Rattle.serving.specs.{Ends.end_by, Ends.end_of_stop, Ends.status_of, Holds.Cause, Holds.IsQuietServing, Scene.Port, Scene.port}
 use Rattle.serving.specs.{Scene.scene, declared.ends.ServeEnd.ServeEnd}
@@ -21,9 +21,9 @@ use Rattle.fwu_words.specs.Order as ask
 use Rattle.script_turns.specs.{Powered.TurnMoment, Runs.calls_of}
 use Rattle.script_runs.specs.{Ending.Ending, Ending.PutsNone, Ending.World, Ways.Given, Ways.HasGoodList, Ways.Refuses}
 use Rattle.flash_commands.specs.Showing.{RefusedList}
-use Rattle.script_cmd.specs.{Promises.EndsByLast, Promises.RanHolds, Granted.RefusesBadList, ByList.may_lack_list}
+use Rattle.script_cmd.specs.{Promises.EndsByLast, Promises.RanHolds, Handed.RefusesBadList, Handed.may_lack_list}
 use Rattle.script_cmd.specs.Here.{ServeWay, ServesSource, left_by_serving, list_refused, note_of, served, sink_of, starved}
-use Rattle.script_cmd.specs.ServedBy.{ServedBy, ServedComplete, ServedEnds, ServedHeadline, ServedWrites, TakesAtMost, Unread, WroteFrames, may_end_serving, reads_no_more}
+use Rattle.script_cmd.specs.ServedBy.{ServedBy, ServedComplete, ServedEnds, ServedHeadline, Unread, WroteFrames, may_end_serving, reads_no_more}
 use Rattle.script_cmd.proofs.{PromiseEnds.refused-ends, PromiseHeadline.idle-head, PromiseHeadline.ran-head}
 use Rattle.script_cmd.proofs.{PromiseHeadline.sound-start, PromiseTurns.idle-holds, PromiseTurns.last-is, PromiseTurns.ran-holds}
 use Rattle.script_cmd.proofs.{PromiseTurns.some-from, ServeAccount.Account, ServeAccount.account, ServeAccount.end-at}
@@ -61,13 +61,13 @@ ends-known end.End = refl
 ends-known other = refl
 
 -- nothing was taken of the source
-takes-none : (status : ℕ) (stream rest : Option (List ℕ)) → rest ≡ stream → (status ≡ 8 → ⊥) → TakesAtMost status stream rest
-takes-none status stream rest same other = record {
-  given = [];
-  consumed = subst (λ (o : Option (List ℕ)). Consumes stream o []) (sym same) (Consumes-nil stream);
-  few = omega arith;
-  too_long = (λ is. absurd (other is), λ more. absurd (omega (arith, more)));
-}
+takes-none : (status : ℕ) (stream rest : Option (List ℕ)) → rest ≡ stream → (status ≡ 8 → ⊥) → (given : List ℕ) × Consumes stream rest given × (length given ≤ most_bytes + 1) × ((status ≡ 8) ↔ (most_bytes < length given))
+takes-none status stream rest same other = (
+  [],
+  subst (λ (o : Option (List ℕ)). Consumes stream o []) (sym same) (Consumes-nil stream),
+  omega arith,
+  (λ is. absurd (other is), λ more. absurd (omega (arith, more))),
+)
 
 -- ---- a list
 
@@ -135,7 +135,7 @@ module _ (g : Given) (ending : Ending Note) (old new : World) (rest : Option (Li
     begin = (drop 1 ending.journal, refl);
     all_turns = λ is. absurd (false≢true (sym (ap reads_no_more nine) ∙ is));
     calls = refl;
-    goes = λ t has. let below = has.1 in absurd (omega (arith, below));
+    goes = λ k d below. absurd (omega (arith, below));
     all_calls = ([], ap (λ (ts : List Turn). calls_of (drop 1 ts) ++ []) none);
     some = λ other. absurd (other nine);
     took = subst (λ (o : Option (List ℕ)). Appends old.taken o []) (sym stuck.0) (Appends-nil old.taken);
@@ -179,12 +179,9 @@ module _ (passes : List ℕ → Bool) (tells : Bool) (g : Given) (ending : Endin
     sink_fault = λ three. cause end.SinkFailed (λ z. omega arith) three;
     flash_fault = λ five. cause end.FlashFault (λ z. omega arith) five;
     not_booted = λ six. let w = end-at-six e (sym is ∙ six) in (w.0, cause-at (end.NotBooted w.0) w.1, said ∙ ap note_of w.1);
-    taken = record {
-      given = by.holds.given.given;
-      consumed = by.holds.given.consumed;
-      few = by.holds.given.few;
-      too_long = (λ eight. by.holds.given.too_long.0 (at end.TooLong (λ z. omega arith) eight), λ more. is ∙ ap status_of (by.holds.given.too_long.1 more));
-    };
+    taken =
+        let g = by.holds.given in
+        (g.given, g.consumed, g.few, (λ eight. g.too_long.0 (at end.TooLong (λ z. omega arith) eight), λ more. is ∙ ap status_of (g.too_long.1 more)));
     too_long = λ eight. some-from g.script _ (λ stream told. (cause end.TooLong (λ z. omega arith) eight stream told).1);
     bad_frame = λ eleven. some-from g.script _ (λ stream told.
         let c = cause end.BadFrame (λ z. omega arith) eleven stream told in
@@ -275,7 +272,8 @@ module _ (passes : List ℕ → Bool) (tells : Bool) (g : Given) (ending : Endin
   why-ended (starved none same unread nine quiet stuck) = starved-ends g ending old new rest nine unread
   why-ended (served good unarmed unread e is said by) = served-ends passes tells g ending old new rest unarmed e is said by
 
-  writes : ServeWay passes tells g ending old new rest → ServedWrites g ending old new rest
+  writes : ServeWay passes tells g ending old new rest → WroteFrames g.script rest ending old.taken new.taken
+      ⊎ ((ending.journal ≡ []) × RefusedList ask.serve g ending.status ending.noted old new)
   writes (list_refused none same unread refused) = inr (none, refused)
   writes (starved none same unread nine quiet stuck) = inl (starved-frames g ending old new rest nine none quiet stuck unread)
   writes (served good unarmed unread e is said by) = inl (served-frames passes tells g ending old new rest unarmed e is said by)

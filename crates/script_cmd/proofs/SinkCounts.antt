@@ -90,9 +90,9 @@ module _ (old new : World) where
   soak-counts device g seed rounds end (soak.starved none same nine is stuck) = counts-none end.status old.faults.sink new.faults.sink nine stuck.1
   soak-counts device g seed rounds end (soak.too_small good small none same is prints) =
       counts-line too_small_line 7 end.status old.taken new.taken old.faults.sink new.faults.sink (λ three. absurd (omega (arith, three))) prints
-  soak-counts device g seed rounds end (soak.not_formatted good large none stop tries is prints) =
+  soak-counts device g seed rounds end (soak.not_formatted good large none stop tries is kept prints) =
       counts-line (format_text (Err stop)) (format_status (Err stop)) end.status old.taken new.taken old.faults.sink new.faults.sink (format-other (Err stop)) prints
-  soak-counts device g seed rounds end (soak.ran good large done start on tries off power turns ends beyond) = ends-counts rounds (in_model end) ends
+  soak-counts device g seed rounds end (soak.ran good large done start on tries off power turns ends beyond kept) = ends-counts rounds (in_model end) ends
 
   serve-counts : (passes : List ℕ → Bool) (tells : Bool) (g : Given) (end : Ending model.Note) (rest : Option (List ℕ)) → ServeWay passes tells g end old new rest → FailsAtThree end.status old.faults.sink new.faults.sink
   serve-counts passes tells g end rest (serve.list_refused none same unread refused) = list-counts ask.serve g end.status end.noted refused
@@ -118,5 +118,5 @@ module _ (old new : World) where
       go (Some ask.show) is = show-counts device.tells (given_all inputs) end.status (in_model end).noted (a.shows is).showed
       go (Some (ask.format banks rows file)) is =
           format-counts passes device (given_all inputs) file (record { banks = banks; rows = rows }) end.status end.noted (a.formats banks rows file is).formats
-      go (Some (ask.soak seed rounds)) is = soak-counts device (given_all inputs) seed rounds end (a.soaks seed rounds is).0
+      go (Some (ask.soak seed rounds)) is = soak-counts device (given_all inputs) seed rounds end (a.soaks seed rounds is)
       go (Some ask.serve) is = serve-counts passes device.tells (given_all inputs) (in_model end) rest (a.serves is)

@@ -41,13 +41,13 @@ use Rattle.flash_commands.specs.Soaking.{EndsNone}
 use Rattle.flash_commands.specs.SoakWays.{SoakEnds, SoakWay, all_done, lacking, list_refused, not_formatted, ran, starved, stopped, too_small}
 use Rattle.flash_commands.specs.Formatting as format
 use Rattle.host_io.specs.Printed.{Prints, nothing}
-use Rattle.script_runs.specs.{ByTable.StopHasCause, ByTable.flash_fault_line, Running.last_turn, Ways.Given, declared.done.Note.Note}
+use Rattle.script_runs.specs.{ByTable.StopHasCause, ByTable.flash_fault_line, Ending.last_turn, Ways.Given, declared.done.Note.Note}
 use Rattle.script_runs.specs.declared.done.Note.TheVariants as own
 use Rattle.script_runs.proofs.TopSources.{by-plan, done-planned, printed-plan}
 use Rattle.script_turns.proofs.RunTurns.{rose-before}
 use Rattle.flash_commands.proofs.SoakRounds.{file-there}
-use Rattle.script_cmd.specs.{Here.FailsNoFile, NoTurns.IsFormattable, Granted.RefusesBadList, Promises.EndsByLast}
-use Rattle.script_cmd.specs.Soaked.{HasSoakList, RunsSoak, SoakedBy, SoakedEnds, first_images, may_end_soak, soak_setting, soak_world}
+use Rattle.script_cmd.specs.{NoTurns.IsFormattable, Handed.HasReadList, Handed.RefusesBadList, Promises.EndsByLast}
+use Rattle.script_cmd.specs.Soaked.{RunsSoak, SoakedBy, SoakedEnds, first_images, may_end_soak, soak_setting, soak_world}
 use Rattle.script_cmd.proofs.PromiseTurns.{idle-holds, last-is, last-push, none-last, ran-holds}
 use Rattle.script_cmd.proofs.PromiseTable.{plain-nothing}
 use Rattle.script_cmd.proofs.PromiseHeadline.{fits, left-by}
@@ -419,7 +419,7 @@ module _ (device : Device) (g : Given) (seed n : ℕ) (end : Ending Note) (old n
       → RefusesBadList g old.flash new.flash end.status old.faults new.faults
       → IsTrue ((end.status == 7) || (may_fail_before end.status || (end.status == 13)))
       → (end.status ≡ 7 → IsTrue (is_too_small device.blocks))
-      → (HasSoakList g old.faults new.faults → IsFalse (is_too_small device.blocks) → (end.status ≡ 9) × (end.noted ≡ own.Nothing))
+      → (HasReadList g old.faults new.faults → IsFalse (is_too_small device.blocks) → (end.status ≡ 9) × (end.noted ≡ own.Nothing))
       → SoakedBy device g seed n end old new
   idle-soaked why none same refuses may seven completes = record {
     ends = why;
@@ -443,8 +443,8 @@ module _ (device : Device) (g : Given) (seed n : ℕ) (end : Ending Note) (old n
 
   -- ---- whichever way
 
-  pub soaked-by : (way : SoakWay device g seed n end old new) → FailsNoFile device g seed n end old new way → SoakedBy device g seed n end old new
-  soaked-by (list_refused none same quiet refused) kept =
+  pub soaked-by : SoakWay device g seed n end old new → SoakedBy device g seed n end old new
+  soaked-by (list_refused none same quiet refused) =
       let other = list-other (ask.soak seed n) (λ is. cc) (λ is. cc) g end.status (noted end.noted) old new refused in
       idle-soaked (list-ended none same quiet refused) none same
       (refused-list g old.flash new.flash end.status old.faults new.faults (ask.soak seed n) (noted end.noted) old.taken new.taken same refused)
@@ -454,18 +454,18 @@ module _ (device : Device) (g : Given) (seed n : ℕ) (end : Ending Note) (old n
       (λ has large.
       absurd
       (list-granted (ask.soak seed n) (λ is. cc) (λ is. cc) g old.faults new.faults refused.0 (noted end.noted) refused.1 has refused.2))
-  soaked-by (starved none same nine is stuck) kept =
+  soaked-by (starved none same nine is stuck) =
       idle-soaked (starved-ended none nine is stuck) none same
       (starved-list g old.flash new.flash end.status old.faults new.faults same nine)
       (ap (λ (k : ℕ). (k == 7) || (may_fail_before k || (k == 13))) nine)
       (λ is. absurd (omega (arith, is, nine))) (λ has large. (nine, is))
-  soaked-by (too_small good small none same is prints) kept =
+  soaked-by (too_small good small none same is prints) =
       idle-soaked (small-ended none small is prints) none same
       (good-list-kept g old.flash new.flash end.status old.faults new.faults good)
       (by-plan too_small_line 7 end.status old.taken new.taken old.faults.sink new.faults.sink prints
       (λ (k : ℕ). (k == 7) || (may_fail_before k || (k == 13))) refl refl refl)
       (λ seven. small) (λ has large. absurd (false≢true (sym large ∙ small)))
-  soaked-by (not_formatted good large none stop t is prints) kept = record {
+  soaked-by (not_formatted good large none stop t is kept prints) = record {
     ends = format-ended stop t none large is prints;
     flash = inr (record {
       good = good;
@@ -491,15 +491,13 @@ module _ (device : Device) (g : Given) (seed n : ℕ) (end : Ending Note) (old n
         (record { files = 0; source = 0; sink = old.faults.sink }) (record { files = 0; source = 0; sink = new.faults.sink }) device.tells
         (format.tried (record { there = λ lacks. lacks; good = tt }) (Err stop) t prints is) told (formattable seed device.blocks room)
         (record {
-          list_there = λ lacks. lacks;
-          list_is = λ k some bad. absurd (cc);
+          list = record { there = λ lacks. lacks; good = λ k some bad. absurd (cc); read = no-rise };
           no_fault = no_fault;
           no_cut = no_cut none;
-          no_file_fault = no-rise;
           no_sink_fault = no_sink;
         });
   }
-  soaked-by (ran good large done start on t off power turns ends quiet) kept = record {
+  soaked-by (ran good large done start on t off power turns ends quiet kept) = record {
     ends = why;
     flash = inr (record {
       good = good;

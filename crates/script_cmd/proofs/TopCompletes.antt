@@ -25,7 +25,7 @@ use Rattle.flash_commands.specs.Formatting as format
 use Rattle.script_runs.proofs.{TopWays.device-of, TopWays.world-of, TopSources.by-plan, TopSources.raised-rose}
 use Rattle.flash_commands.proofs.FormatFlash.{wakes-clean}
 use Rattle.script_cmd.specs.NoTurns.{HasMetadata, IsFormattable}
-use Rattle.script_cmd.specs.{ByList.may_lack_list, Granted.IsGranted, Soaked.HasSoakList}
+use Rattle.script_cmd.specs.{Handed.may_lack_list, Handed.HasReadList, Handed.IsGranted}
 
 -- a line whose status was to be 0, at a sink that did not fail
 pub printed : (line : List ℕ) (status : ℕ) (old new : Option (List ℕ)) (faults_before faults_after : ℕ) → (Rose faults_before faults_after → ⊥) → Prints line 0 status old new faults_before faults_after → (status ≡ 0) ⊎ (status ≡ 9)
@@ -52,7 +52,7 @@ module _ (asked : Asked) (runs : Some asked ≡ Some ask.run → ⊥) (boots : S
   list-cause g before after planned noted line (bad_list n some there bad) = inr (refl, some, n, refl, bad, refl)
 
   -- where it is there and has no bad line it is not
-  pub list-granted : (g : Given) (before after : Faults) (planned : ℕ) (noted : Note) (line : List ℕ) → HasSoakList g before after
+  pub list-granted : (g : Given) (before after : Faults) (planned : ℕ) (noted : Note) (line : List ℕ) → HasReadList g before after
       → Refuses (Some asked) g before after planned noted line → ⊥
   list-granted g before after planned noted line has why = elim (list-cause g before after planned noted line why) [
     | inl c ↦ elim c.2 [ inl rose ↦ has.read rose | inr lacks ↦ has.there lacks ]
@@ -61,9 +61,7 @@ module _ (asked : Asked) (runs : Some asked ≡ Some ask.run → ⊥) (boots : S
 
   pub granted : (g : Given) (before after : Counts) (faults_before faults_after : Faults) (planned : ℕ) (noted : Note) (line : List ℕ)
       → IsGranted g before after faults_before faults_after → Refuses (Some asked) g faults_before faults_after planned noted line → ⊥
-  granted g before after faults_before faults_after planned noted line has =
-      list-granted g faults_before faults_after planned noted line
-      (record { there = has.list_there; good = has.list_is; read = has.no_file_fault })
+  granted g before after faults_before faults_after planned noted line has = list-granted g faults_before faults_after planned noted line has.list
 
   module _ (g : Given) (status : ℕ) (noted : Note) (old new : World) (refused : RefusedList asked g status noted old new) where
     -- the statuses of that: the sink may fail at the line, or memory be wanting
@@ -133,7 +131,7 @@ module _ (passes : List ℕ → Bool) (g : Given) (name : List ℕ) (L : Layout)
   tried (Err ReadFailed) can grants tries prints = absurd (unread (tries.reads.failed refl))
     where
       unread : Rose faults_before.files faults_after.files ⊎ Lacks g.files name → ⊥
-      unread (inl rose) = grants.no_file_fault rose
+      unread (inl rose) = grants.list.read rose
       unread (inr lacks) = there g.files name can.file can.is_there lacks
   tried (Err (Flash stop)) can grants tries prints = absurd (stopped (tries.stopped stop refl))
     where

@@ -15,8 +15,9 @@ use Rattle.script_turns.specs.Powered.{TurnMoment}
 use Rattle.script_runs.specs.{Ending.is_beyond_model, Ending.noted, declared.done.Note.Note}
 use Rattle.script_runs.specs.Ways.{Given, HasGoodList, Refuses}
 use Rattle.script_runs.specs.declared.done.Note.TheVariants as note
-use Rattle.script_runs.proofs.{TopWays.device-of, TopWays.end-of, TopWays.world-of, TopSources.by-plan, TopSources.not-done}
-use Rattle.script_cmd.specs.{NoTurns.FormattedBy, Granted.RefusesBadList}
+use Rattle.script_runs.proofs.{TopWays.device-of, TopWays.end-of, TopWays.world-of, TopSources.by-plan, TopSources.done-planned, TopSources.not-done}
+use Rattle.flash_commands.proofs.FormatFlash.{format-done}
+use Rattle.script_cmd.specs.{NoTurns.FormattedBy, Handed.RefusesBadList}
 use Rattle.script_cmd.proofs.TopCompletes.{format-completes, list-other, list-status}
 use Rattle.script_cmd.proofs.TopShows.{good-list-kept, refused-list, starved-list}
 use Rattle.script_cmd.proofs.TopLists.{from-sink, refused-behind}
@@ -74,12 +75,21 @@ module _ (passes : List ℕ → Bool) (tells : Bool) (g : Given) (file : List �
       (list-other (ask.format L.banks L.rows file) (λ is. cc) (λ is. cc) g status (noted said) (world-of old taken_before faults_before)
       (world-of new taken_after faults_after) refused 0 refl zero)
 
+  powers : Formats passes (device-of tells blocks) g file L (world-of old taken_before faults_before) (world-of new taken_after faults_after) status said → status ≡ 0 → IsTrue new.power
+  powers (starved nine is same none still) zero = absurd (omega (arith, nine, zero))
+  powers (tried good r t prints is) zero = t.power ∙ format-done r (done-planned _ _ _ _ _ _ _ prints zero)
+  powers (list_refused same quiet refused) zero =
+      absurd
+      (list-other (ask.format L.banks L.rows file) (λ is. cc) (λ is. cc) g status (noted said) (world-of old taken_before faults_before)
+      (world-of new taken_after faults_after) refused 0 refl zero)
+
   pub formatted-by : old.armed ≡ None → journal ≡ [] → Formats passes (device-of tells blocks) g file L (world-of old taken_before faults_before) (world-of new taken_after faults_after) status said → FormattedBy passes (device-of tells blocks) g file L (end-of journal status said) (world-of old taken_before faults_before) (world-of new taken_after faults_after)
   formatted-by unarmed none formats = record {
     formats = formats;
     refuses_list = lists formats;
     lacking = lacks-package formats;
     blank = blanks formats;
+    power = powers formats;
     no_turns = none;
     made = made-none formats;
     unarmed = arms-none unarmed formats;

@@ -14,7 +14,7 @@ use Rattle.fwu_words.specs.{Order.Asked, Order.asked, Allow.NamesList, Allow.Nam
 use Rattle.script_turns.specs.Powered.{TurnMoment}
 use Rattle.script_runs.specs.Ways.{HasGoodList}
 use Rattle.script_cmd.specs.Handed.{asked_after, asked_with_list}
-use Rattle.script_cmd.specs.ByList.{ByList, HasPasses, IsIdle, ReadsList, StandsIn, may_lack_list}
+use Rattle.script_cmd.specs.Handed.{HasPasses, IsIdle, ReadsList, StandsIn, may_lack_list}
 
 none_some : (bytes : List ℕ) → None ≡ Some bytes → ⊥
 none_some bytes e = cc
@@ -75,23 +75,6 @@ reads-list name bytes digests files whole read = record {
   is_list = read;
   passes_are = refl;
 }
-
-has-list : (asks : Bool) (list : Option (List ℕ)) (name : List ℕ) (files : Option Directory) (passes : List ℕ → Bool) → asks ≡ true → list ≡ Some name → ReadsList (Some name) files passes → HasPasses asks list files passes
-has-list asks list name files passes is named reads = record {
-  any = λ no. absurd (false≢true (sym no ∙ is));
-  listed = λ again. subst (λ (l : Option (List ℕ)). ReadsList l files passes) (sym named) reads;
-}
-
--- what is promised by the list is promised by the words that name it
-pub by-words : (asks : Bool) (list : Option (List ℕ)) (name : List ℕ) (files : Option Directory) (Idle : Type 0) (P Q : (List ℕ → Bool) → Type 0) → asks ≡ true → list ≡ Some name → ((passes : List ℕ → Bool) → P passes → Q passes)
-    → ByList (ReadsList (Some name) files) Idle P → ByList (HasPasses asks list files) Idle Q
-by-words asks list name files Idle P Q is named goes (inl (passes, reads, p)) = inl (passes, has-list asks list name files passes is named reads, goes passes p)
-by-words asks list name files Idle P Q is named goes (inr (idle, all)) = inr (idle, λ passes. goes passes (all passes))
-
--- and so is what follows from it
-pub by-list : (Has : (List ℕ → Bool) → Type 0) (Idle : Type 0) (P Q : (List ℕ → Bool) → Type 0) → ((passes : List ℕ → Bool) → P passes → Q passes) → ByList Has Idle P → ByList Has Idle Q
-by-list Has Idle P Q goes (inl (passes, has, p)) = inl (passes, has, goes passes p)
-by-list Has Idle P Q goes (inr (idle, all)) = inr (idle, λ passes. goes passes (all passes))
 
 -- nothing was done, for want of memory or for a line that stands alone
 pub idles : (journal : List Turn) (status : ℕ) (old new : TurnMoment) → journal ≡ [] → new ≡ old → status ≡ 9 → IsIdle journal status old new

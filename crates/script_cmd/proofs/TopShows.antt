@@ -1,5 +1,5 @@
 -- The command `show`, by the words and behind a list.
-use Rattle.std.proofs.Common.{◌≡◌, ◌≤◌, ◌||◌, ◌==◌, ℕ, Bool, List, Option, Some, None, Err, refl, sym, ap, subst, ◌∙◌, inl, IsTrue, le_refl, []}
+use Rattle.std.proofs.Common.{◌≡◌, ◌≤◌, ◌||◌, ◌==◌, ℕ, Bool, List, Option, Some, None, Err, refl, sym, ap, subst, ◌∙◌, inl, IsTrue, le_refl, [], arith, not}
 use Rattle.flash_core.specs.{Told.NothingDirty, declared.flash.Counts.Counts}
 use Rattle.fwu_formats.specs.Digests.{digests_of}
 use Rattle.fwu_model.specs.{Allow.list_bytes, Reply.Turn, Causes.Faults, Causes.may_fail_before, declared.kinds.Note.Note}
@@ -10,10 +10,10 @@ use Rattle.fwu_words.specs.Order as ask
 use Rattle.script_turns.specs.{Powered.TurnMoment, Turning.NoneFalls}
 use Rattle.script_runs.specs.Ways.{Given, HasGoodList, Refuses}
 use Rattle.flash_commands.specs.Showing.{Showed, RefusedList, starved, list_refused, found}
-use Rattle.script_runs.proofs.{TopWays.end-of, TopWays.world-of, TopSources.by-plan}
-use Rattle.script_cmd.specs.{NoTurns.ShowedBy, Granted.RefusesBadList}
+use Rattle.script_runs.proofs.{TopWays.end-of, TopWays.world-of, TopSources.by-plan, TopSources.done-planned}
+use Rattle.script_cmd.specs.{NoTurns.ShowedBy, Handed.RefusesBadList}
 use Rattle.script_cmd.proofs.{PromiseEnds.bad-status, PromiseEnds.lacks-list, PromiseTurns.some-from, PromiseTurns.some-at}
-use Rattle.script_cmd.proofs.{TopLists.from-sink, TopLists.refused-behind, TopCompletes.show-completes}
+use Rattle.script_cmd.proofs.{TopLists.from-sink, TopLists.refused-behind, TopCompletes.list-other, TopCompletes.show-completes}
 
 pub falls-none : (counts : Counts) → NoneFalls counts counts
 falls-none counts = record { faults = le_refl counts.faults; cuts = le_refl counts.cuts; reached = le_refl counts.reached; chances = le_refl counts.chances }
@@ -52,6 +52,12 @@ module _ (tells : Bool) (g : Given) (old new : TurnMoment) (status : ℕ) (noted
   unwritten (list_refused same refused) = ap (λ (m : TurnMoment). m.writes) same
   unwritten (found good planned line wakes finds once power still prints) = still
 
+  powers : Showed tells g (world-of old taken_before faults_before) (world-of new taken_after faults_after) status noted → status ≡ 0 → IsTrue new.power
+  powers (starved nine quiet same none) zero = absurd (omega (arith, nine, zero))
+  powers (list_refused same refused) zero =
+      absurd (list-other ask.show (λ is. cc) (λ is. cc) g status noted (world-of old taken_before faults_before) (world-of new taken_after faults_after) refused 0 refl zero)
+  powers (found good planned line wakes finds once power still prints) zero = power ∙ ap (λ (n : ℕ). not (n == 5)) (done-planned _ _ _ _ _ _ _ prints zero)
+
   pub showed-by : Showed tells g (world-of old taken_before faults_before) (world-of new taken_after faults_after) status noted → (IsTrue tells → NothingDirty old.told → new.told ≡ old.told) → (IsTrue tells → new.told.guard ≡ old.told.guard) → journal ≡ []
       → NoneFalls old.counts new.counts → new.counts.made ≡ old.counts.made → new.armed ≡ None → ShowedBy tells g (end-of journal status noted) (world-of old taken_before faults_before) (world-of new taken_after faults_after)
   showed-by showed content guard none counts made unarmed = record {
@@ -64,6 +70,7 @@ module _ (tells : Bool) (g : Given) (old new : TurnMoment) (status : ℕ) (noted
     counts = counts;
     made = made;
     unarmed = unarmed;
+    power = powers showed;
     complete = show-completes g old.counts new.counts status taken_before taken_after faults_before faults_after tells old new noted refl refl showed;
   }
 

@@ -4,7 +4,7 @@ use Rattle.fwu_model.specs.{Causes.Faults, Reply.Turn}
 use Rattle.fwu_words.specs.Order.{Asked}
 use Rattle.host_io.specs.{Access.Access, Contents.Directory, Reads.ReadsFile, Reads.ReadsFiles, declared.files.Files.Ghosts}
 use Rattle.script_runs.specs.Ways.{HasGoodList}
-use Rattle.script_cmd.specs.{Handed.Inputs, ReadsInputs.IsUnasked}
+use Rattle.script_cmd.specs.{Handed.Inputs, Serves.IsUnasked}
 
 -- ---- what a run was given, from its parts, and that no count of failures fell
 

@@ -1,10 +1,14 @@
--- What the words ask for, and what the program was handed.
-use Rattle.std.specs.Prelude.{ℕ, Bool, true, false, List, Option, Some, None, ⊤}
-use Rattle.fwu_model.specs.Allow.{asks_list, list_name, after_list}
+-- What the words ask for, what the program was handed, whose manifests pass, and what a command that runs no script is granted.
+use Rattle.std.specs.Prelude.{◌≡◌, ◌⊎◌, ℕ, ⊤, Bool, true, false, ◌||◌, ◌==◌, List, Option, Some, None, Ok, Err, IfSome, IsSome, IsTrue, []}
+use Rattle.flash_core.specs.{Counts.Rose, declared.flash.Counts.Counts}
+use Rattle.fwu_model.specs.{Allow.after_list, Allow.asks_list, Allow.list_bytes, Allow.list_name, Causes.Faults, Causes.LacksList}
+use Rattle.fwu_model.specs.{Causes.RefusesList, Causes.may_fail_before, Reply.Turn, Wrote.IsBadList}
+use Rattle.fwu_formats.specs.Digests.{digests_of, passes_any, passes_listed}
 use Rattle.fwu_words.specs.Order.{Asked, asked}
 use Rattle.fwu_words.specs.Order as ask
 use Rattle.host_io.specs.declared.files.Files as files
 use Rattle.host_io.specs.declared.source.Source as source
+use Rattle.script_turns.specs.Powered.{TurnMoment}
 use Rattle.script_runs.specs.Ways.{Given}
 
 -- the words that follow a list, where they begin with one that has a name
@@ -44,12 +48,6 @@ asks_beyond (Some (ask.format banks rows file)) = true
 asks_beyond (Some (ask.soak seed rounds)) = true
 asks_beyond other = false
 
--- the commands that do no turns, and leave the flash on where they are done
-abbrev pub leaves_on : Option Asked → Bool
-leaves_on (Some ask.show) = true
-leaves_on (Some (ask.format banks rows file)) = true
-leaves_on other = false
-
 -- the words ask for the turns of a script, or for nothing
 abbrev pub RunsOrNone : Option Asked → Type 0
 RunsOrNone None = ⊤
@@ -87,3 +85,66 @@ unlisted h i words files source = inputs_of h i (asked words) None files source
 -- by words that may begin with a list
 abbrev pub by_list : {H I : Type 0} → files.Ghosts H → source.Ghosts I → List (List ℕ) → H → I → Inputs
 by_list h i words files source = inputs_of h i (asked_with_list words) (list_name words) files source
+
+-- ---- the list of digests that the words may name
+
+-- the file of this name has these bytes, where the files are told
+abbrev pub StandsIn : Option (List ℕ → Option (List ℕ)) → List ℕ → List ℕ → Type 0
+StandsIn (Some files) name bytes = files name ≡ Some bytes
+StandsIn None name bytes = ⊤
+
+-- A list of digests was read from the file that is named, and the manifests that it lists pass.
+pub record ReadsList (list : Option (List ℕ)) (files : Option (List ℕ → Option (List ℕ)))
+    (passes : List ℕ → Bool) : Type 0 where
+  pub name : List ℕ
+  pub named : list ≡ Some name
+  pub bytes : List ℕ
+  pub stands : StandsIn files name bytes
+  pub digests : List (List ℕ)
+  pub is_list : digests_of bytes ≡ Ok digests
+  pub passes_are : passes ≡ passes_listed digests
+
+-- Whose manifests pass: any where no list is asked for, and else those of the list.
+pub record HasPasses (asks : Bool) (list : Option (List ℕ))
+    (files : Option (List ℕ → Option (List ℕ))) (passes : List ℕ → Bool) : Type 0 where
+  pub any : asks ≡ false → passes ≡ passes_any
+  pub listed : asks ≡ true → ReadsList list files passes
+
+-- these end a command whose list of digests was not read: by usage, the list, the sink, or want of memory
+abbrev pub may_lack_list : ℕ → Bool
+may_lack_list status = (status == 1) || ((status == 2) || ((status == 3) || ((status == 9) || (status == 13))))
+
+-- nothing was done
+pub record IsIdle (journal : List Turn) (status : ℕ) (old new : TurnMoment) : Type 0 where
+  pub no_turns : journal ≡ []
+  pub same : new ≡ old
+  pub status_is : IsTrue (may_lack_list status)
+
+-- The promise holds for the manifests that pass, by the list that was read.
+-- Where one is named and none was read nothing was done, and it holds whichever pass.
+abbrev pub ByList : (HasPasses : (List ℕ → Bool) → Type 0) → (Idle : Type 0) → (Promise : (List ℕ → Bool) → Type 0) → Type 0
+ByList Has Idle Promise = ((passes : List ℕ → Bool) × Has passes × Promise passes)
+    ⊎ (Idle × ((passes : List ℕ → Bool) → Promise passes))
+
+-- A list that told files lack is answered by 2, and one with a bad line by 13, or 2 where it could not be read. The sink may fail
+-- at that line, or memory be wanting. And the flash is as it was.
+pub record RefusesBadList (g : Given) (old new : TurnMoment) (status : ℕ)
+    (faults_before faults_after : Faults) : Type 0 where
+  pub lacking : LacksList g.files g.list → (new ≡ old) × IsTrue (may_fail_before status)
+  pub bad : IfSome (list_bytes g.list g.files) (λ bytes. (n : ℕ) → digests_of bytes ≡ Err n
+      → (new ≡ old) × RefusesList status faults_before faults_after)
+
+-- where a list of digests is named, it is there, was read and has no bad line
+pub record HasReadList (g : Given) (faults_before faults_after : Faults) : Type 0 where
+  pub there : LacksList g.files g.list → ⊥
+  pub good : (n : ℕ) → IsSome g.list → IsBadList (list_bytes g.list g.files) n → ⊥
+  pub read : Rose faults_before.files faults_after.files → ⊥
+
+-- A command that runs no script is given what it asks for: such a list, where one is named. And nothing failed, of the files
+-- either, and no power was lost.
+pub record IsGranted (g : Given) (before after : Counts)
+    (faults_before faults_after : Faults) : Type 0 where
+  pub list : HasReadList g faults_before faults_after
+  pub no_fault : Rose before.faults after.faults → ⊥
+  pub no_cut : Rose before.cuts after.cuts → ⊥
+  pub no_sink_fault : Rose faults_before.sink faults_after.sink → ⊥

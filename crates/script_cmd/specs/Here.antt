@@ -1,30 +1,22 @@
 -- What is done for what the words ask for, by each command.
-use Rattle.std.specs.Prelude.{◌≡◌, ℕ, Bool, List, Option, Some, None, IsTrue, IsFalse, [], ⊤}
+use Rattle.std.specs.Prelude.{◌≡◌, ℕ, Bool, List, Option, Some, None, IsFalse, []}
 use Rattle.fwu_formats.specs.Layout.{ImageRow}
 use Rattle.fwu_words.specs.Order.{Asked}
 use Rattle.fwu_words.specs.Order as ask
-use Rattle.script_runs.specs.Ending.{Device, Ending, PutsNone, World, in_model, is_beyond_model, ending}
+use Rattle.script_runs.specs.Ending.{Device, Ending, PutsNone, World, in_model, is_beyond_model}
+use Rattle.script_runs.specs.{Ways.Given, Ways.HasGoodList, Ways.Way, WaysByTable.WayByTable, declared.done.Note.Note}
 use Rattle.flash_commands.specs.{Showing.RefusedList, SoakWays.SoakWay}
-use Rattle.flash_commands.specs.SoakWays as soak
-use Rattle.script_runs.specs.Ways.{Given, HasGoodList, Way, described}
-use Rattle.script_runs.specs.{WaysByTable.WayByTable, declared.done.Note.Note, declared.done.Done.Done}
-use Rattle.flash_core.specs.declared.flash.Flash as flash
 use Rattle.host_io.specs.Contents.{Directory}
-use Rattle.host_io.specs.declared.files.Files as files
-use Rattle.host_io.specs.declared.source.Source as source
-use Rattle.host_io.specs.declared.sink.Sink as sink
-use Rattle.fwu_model.specs.{Causes.Faults, Reply.Turn}
+use Rattle.fwu_model.specs.Reply.{Turn}
 use Rattle.fwu_model.specs.declared.kinds.Note as model
 use Rattle.fwu_model.specs.declared.kinds.Note.TheVariants as note
 use Rattle.agent_machine.specs.Fields.{Fields}
-use Rattle.script_turns.specs.Powered.{at, moment}
 use Rattle.wire_frames.specs.Exchange.{LastAnswer}
 use Rattle.serving.specs.{Ends.status_of, Holds.ServingHolds, Scene.At, Scene.Port, Scene.port, Scene.scene, Going.ServesFrom}
 use Rattle.serving.specs.declared.ends.ServeEnd.{ServeEnd}
 use Rattle.serving.specs.declared.ends.ServeEnd.TheVariants as end
-use Rattle.script_cmd.specs.Handed.{asks_beyond, leaves_on, RunsOrNone, over_table, Inputs, given_all}
-use Rattle.script_cmd.specs.{NoTurns.FormattedBy, NoTurns.ShowedBy, Promises.given_to, ServedBy.Unread, ByList.ByList}
-use Rattle.script_cmd.specs.{ByList.IsIdle, ReadsInputs.ReadsInputs}
+use Rattle.script_cmd.specs.Handed.{asks_beyond, RunsOrNone, over_table, Inputs, given_all}
+use Rattle.script_cmd.specs.{NoTurns.FormattedBy, NoTurns.ShowedBy, Promises.given_to, ServedBy.Unread, Serves.ReadsInputs}
 
 -- ---- the ways that `serve` may end
 
@@ -39,14 +31,7 @@ sink_of w = port w.taken w.faults.sink
 -- what a serving leaves: what the agent keeps at last, and the last reply, come to the turns and the world
 abbrev pub left_by_serving : Option Fields → LastAnswer → List Turn → World → At
 left_by_serving on exchange journal new =
-    record {
-      run = record {
-        moment = at on new.flash.told new.flash.writes new.flash.counts new.flash.armed new.flash.power;
-        journal = journal;
-      };
-      exchange = exchange;
-      sink = sink_of new;
-    }
+    record { run = record { moment = record new.flash { on = on }; journal = journal }; exchange = exchange; sink = sink_of new }
 
 -- The flash was booted and the requests of the source were served, up to this end. `rest` is what the source has left then.
 pub record ServesSource (passes : List ℕ → Bool) (tells : Bool) (files : Option Directory) (stream : Option (List ℕ))
@@ -55,42 +40,23 @@ pub record ServesSource (passes : List ℕ → Bool) (tells : Bool) (files : Opt
   pub exchange : LastAnswer
   -- what was taken, done and written
   pub serves : ServesFrom (scene passes tells files old.faults.files) old.flash (sink_of old)
-      (left_by_serving on exchange journal new) e
-      (port stream old.faults.source) (port rest new.faults.source)
+      (left_by_serving on exchange journal new) e (port stream old.faults.source) (port rest new.faults.source)
   -- that its turns are a run, and why it ended so
   pub holds : ServingHolds (scene passes tells files old.faults.files) old.flash (sink_of old)
-      (left_by_serving on exchange journal new) e
-      (port stream old.faults.source) (port rest new.faults.source)
+      (left_by_serving on exchange journal new) e (port stream old.faults.source) (port rest new.faults.source)
 
 -- Nothing was done, since a list of digests was not read or is none, or for want of memory; or requests were served. No loss of
 -- power was armed at first.
 pub data ServeWay (passes : List ℕ → Bool) (tells : Bool) (g : Given) (ending : Ending model.Note) (old new : World)
     (rest : Option (List ℕ)) : Type 0 where
   list_refused : ending.journal ≡ [] → new.flash ≡ old.flash → Unread g old new rest
-      → RefusedList ask.serve g ending.status ending.noted old new
-      → ServeWay passes tells g ending old new rest
+      → RefusedList ask.serve g ending.status ending.noted old new → ServeWay passes tells g ending old new rest
   starved : ending.journal ≡ [] → new.flash ≡ old.flash → Unread g old new rest → ending.status ≡ 9
-      → ending.noted ≡ note.Nothing → PutsNone old new
-      → ServeWay passes tells g ending old new rest
+      → ending.noted ≡ note.Nothing → PutsNone old new → ServeWay passes tells g ending old new rest
   served : HasGoodList g.list g.files → old.flash.armed ≡ None → new.faults.files ≡ old.faults.files → (e : ServeEnd)
       → ending.status ≡ status_of e → ending.noted ≡ note_of e
       → ServesSource passes tells g.files g.script e ending.journal old new rest
       → ServeWay passes tells g ending old new rest
-
--- ---- the ways that `soak` may end
-
--- where its flash was formatted, or that was tried, no call of the files failed
-abbrev pub FailsNoFile : (device : Device) (g : Given) (seed rounds : ℕ) (ending : Ending Note) (old new : World)
-    → SoakWay device g seed rounds ending old new → Type 0
-FailsNoFile device g seed rounds ending old new (soak.not_formatted good large none stop tries is prints) =
-    new.faults.files ≡ old.faults.files
-FailsNoFile device g seed rounds ending old new (soak.ran good large done start on tries off power turns ends quiet) =
-    new.faults.files ≡ old.faults.files
-FailsNoFile device g seed rounds ending old new other = ⊤
-
-abbrev pub SoakHere : Device → Given → ℕ → ℕ → Ending Note → World → World → Type 0
-SoakHere device g seed rounds ending old new = (way : SoakWay device g seed rounds ending old new)
-    × FailsNoFile device g seed rounds ending old new way
 
 -- ---- by each command
 
@@ -105,46 +71,9 @@ pub record Answered {H I : Type 0} (passes : List ℕ → Bool) (device : Device
   pub formats : (banks : ℕ) (rows : List ImageRow) (file : List ℕ) → inputs.asked ≡ Some (ask.format banks rows file)
       → FormattedBy passes device (given_all inputs) file (record { banks = banks; rows = rows }) ending old new
   pub soaks : (seed rounds : ℕ) → inputs.asked ≡ Some (ask.soak seed rounds)
-      → SoakHere device (given_all inputs) seed rounds ending old new
+      → SoakWay device (given_all inputs) seed rounds ending old new
   pub serves : inputs.asked ≡ Some ask.serve → ServeWay passes device.tells (given_all inputs) (in_model ending) old new rest
-  pub power : IsTrue (leaves_on inputs.asked) → ending.status ≡ 0 → IsTrue new.flash.power
   pub note : IsFalse (asks_beyond inputs.asked) → IsFalse (is_beyond_model ending.noted)
   -- what it takes of its files and its source, where these tell it, and which failures they count: of the files, where nothing was
   -- sent, and but for `format`
   pub reads : ReadsInputs inputs ending old.faults new.faults rest files_before files_after source_before source_after
-
--- The same by the manifests of a list that was read (`Has` says of which), or nothing was done, and it holds whichever pass.
-abbrev pub AnsweredByList : {H I : Type 0} → (Has : (List ℕ → Bool) → Type 0) → Device → Inputs → Ending Note → World → World
-    → Option (List ℕ) → H → H → I → I → Type 0
-AnsweredByList Has device inputs ending old new rest files_before files_after source_before source_after =
-    ByList Has (IsIdle ending.journal ending.status old.flash new.flash)
-    (λ passes. Answered passes device inputs ending old new rest files_before files_after source_before source_after)
-
--- ---- what the functions of the program say of what they were handed, and of what they left
-
--- what the files, the source and the sink count
-abbrev pub faults_of : {H I O : Type 0} → (H → ℕ) → (I → ℕ) → (O → ℕ) → H → I → O → Faults
-faults_of files source sink h i o = record { files = files h; source = source i; sink = sink o }
-
--- what is compared before and after a command
-abbrev pub world : {D H I O : Type 0} → flash.Ghosts D → files.Ghosts H → source.Ghosts I → sink.Ghosts O → D → H → I → O → World
-world d h i o flash files source sink =
-    record {
-      flash = moment d flash;
-      taken = o.taken sink;
-      faults = faults_of h.faults i.faults o.faults files source sink;
-    }
-
--- what was answered, for the manifests that pass
-abbrev pub AnsweredHere : {D H I O : Type 0} → flash.Ghosts D → files.Ghosts H → source.Ghosts I → sink.Ghosts O
-    → (List ℕ → Bool) → Inputs → D → H → I → O → Done D → H → I → O → Type 0
-AnsweredHere d h i o passes inputs flash files source sink done files_after source_after sink_after =
-    Answered passes (described d flash) inputs (ending done) (world d h i o flash files source sink)
-    (world d h i o done.flash files_after source_after sink_after) (i.left source_after) files files_after source source_after
-
--- and by the manifests of a list that was read
-abbrev pub AnswersHere : {D H I O : Type 0} → flash.Ghosts D → files.Ghosts H → source.Ghosts I → sink.Ghosts O
-    → ((List ℕ → Bool) → Type 0) → Inputs → D → H → I → O → Done D → H → I → O → Type 0
-AnswersHere d h i o Has inputs flash files source sink done files_after source_after sink_after =
-    AnsweredByList Has (described d flash) inputs (ending done) (world d h i o flash files source sink)
-    (world d h i o done.flash files_after source_after sink_after) (i.left source_after) files files_after source source_after

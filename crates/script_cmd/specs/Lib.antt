@@ -2,10 +2,7 @@ pub mod Promises
 pub mod Outcomes
 pub mod Soaked
 pub mod ServedBy
-pub mod ReadsInputs
 pub mod Serves
 pub mod Handed
 pub mod Here
-pub mod ByList
-pub mod Granted
 pub mod NoTurns

@@ -12,7 +12,7 @@ use Rattle.meta_layout.specs.Rows.{fitted}
 use Rattle.fip_tables.specs.Files.{Lacks, Tells}
 use Rattle.flash_format.specs.{Choosing.refusal, Formatted.IsBlank}
 use Rattle.script_runs.specs.declared.done.Note as own
-use Rattle.script_cmd.specs.Granted.{RefusesBadList, IsGranted}
+use Rattle.script_cmd.specs.Handed.{RefusesBadList, IsGranted}
 
 -- ---- what the command `show` promises, whichever way it ends
 
@@ -35,6 +35,8 @@ pub record ShowedBy (tells : Bool) (g : Given) (ending : Ending Note) (old new :
   pub counts : NoneFalls old.flash.counts new.flash.counts
   pub made : new.flash.counts.made ≡ old.flash.counts.made
   pub unarmed : new.flash.armed ≡ None
+  -- done: it leaves the flash on
+  pub power : ending.status ≡ 0 → IsTrue new.flash.power
   -- the numbers are shown where all is there and nothing failed, unless memory was wanting
   pub complete : IsTrue tells → NothingDirty old.flash.told → HasMetadata old.flash.told.now
       → IsGranted g old.flash.counts new.flash.counts old.faults new.faults → (ending.status ≡ 0) ⊎ (ending.status ≡ 9)
@@ -62,8 +64,9 @@ pub record FormattedBy (passes : List ℕ → Bool) (device : Device) (g : Given
   -- or by a failure at the line, or on the way there
   pub lacking : Lacks g.files name → (M : Layout) → fitted L device.blocks ≡ Ok M
       → IsTrue (may_fail_before ending.status || (ending.status == 13))
-  -- done: no old mark, record of the counter or package is left
+  -- done: no old mark, record of the counter or package is left, and the flash is on
   pub blank : ending.status ≡ 0 → IsTrue device.tells → IsBlank L new.flash.told.now
+  pub power : ending.status ≡ 0 → IsTrue new.flash.power
   pub no_turns : ending.journal ≡ []
   pub made : new.flash.counts.made ≡ old.flash.counts.made
   pub unarmed : new.flash.armed ≡ None

@@ -14,7 +14,7 @@ use Rattle.script_turns.specs.Powered.{SameDevice}
 use Rattle.script_runs.specs.Ending.{Ending, World}
 use Rattle.std.specs.List.{slice_get}
 use Rattle.image_check.specs.Passed.{HasPackage}
-use Rattle.script_cmd.specs.{ByList.HasPasses, Handed.Inputs, Promises.Promised}
+use Rattle.script_cmd.specs.{Handed.HasPasses, Handed.Inputs, Promises.Promised}
 
 -- A script with a call isn't passed over: nothing done and status 0 is the end of a script without calls.
 abbrev pub NothingIsPassedOver : Type 0

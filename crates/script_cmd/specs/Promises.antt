@@ -3,7 +3,7 @@ use Rattle.std.specs.Prelude.{◌≡◌, ℕ, Bool, List, Some, None, Ok, Err, s
 use Rattle.std.specs.Prelude.{◌||◌, ◌==◌, [], length}
 use Rattle.fwu_model.specs.{declared.kinds.Note.Note, State.State, Sound.Setting, Sound.choice, Reply.Turn, Answer.booted_package}
 use Rattle.fwu_model.specs.{Seen.seen, Call.Call, Allow.list_bytes, Calm.IsAtRest, Calm.IsGuarded, Contract.Premises, Contract.Asks}
-use Rattle.fwu_model.specs.{Headline.Headline, Headline.Outcome, Asked.script_asked, Wrote.Wrote}
+use Rattle.fwu_model.specs.{Headline.Headline, Headline.Outcome, Asked.script_asked, Wrote.Wrote, Causes.EndsAs, Causes.IsServed}
 use Rattle.fwu_model.specs.declared.kinds.Note.TheVariants as note
 use Rattle.fwu_model.specs.declared.kinds.NoBoot.TheVariants as no_boot
 use Rattle.fwu_formats.specs.{declared.kinds.LayoutFault.LayoutFault, Layout.Layout, Manifest.version}
@@ -13,15 +13,14 @@ use Rattle.flash_core.specs.{Counts.Rose, Counts.all_stops, Told.NothingDirty, T
 use Rattle.agent_machine.specs.Fields.{Fields}
 use Rattle.host_io.specs.Contents.{Directory}
 use Rattle.fwu_model.specs.Call as call
-use Rattle.fwu_model.specs.{Causes.EndsAs, Causes.IsServed, Causes.cuts_in, Causes.may_fail_before, Causes.note_by}
-use Rattle.fwu_model.specs.{Causes.status_by, Run.ends_run}
+use Rattle.fwu_model.specs.{Causes.cuts_in, Causes.may_fail_before, Causes.note_by, Causes.status_by, Run.ends_run}
 use Rattle.fwu_words.specs.Order.{Asked}
 use Rattle.fwu_words.specs.Order as ask
-use Rattle.script_runs.specs.{Refusing.in_short, Ending.Ending, Ending.World, Ending.Device, Ending.in_model, Ending.noted}
+use Rattle.script_runs.specs.{Sourced.in_short, Ending.Ending, Ending.World, Ending.Device, Ending.in_model, Ending.noted}
 use Rattle.script_runs.specs.{Ending.PutsNone, Ending.is_beyond_model, Ways.Given, Ways.Refuses, Ways.Way, WaysByTable.ReadsScript}
 use Rattle.script_runs.specs.ByTable.{Looks, Starts, StopsBefore, flash_fault_line, lacked_in, no_table_line, seen_at}
 use Rattle.host_io.specs.Printed.{Prints}
-use Rattle.script_turns.specs.{Boots.BootsFrom, Powered.TurnMoment, Powered.SameDevice, Powered.at}
+use Rattle.script_turns.specs.{Boots.BootsFrom, Powered.TurnMoment, Powered.SameDevice}
 use Rattle.script_turns.specs.Runs.{Follows, LossesAreDue, RunTouches, RunsFree, power_left, stops_of}
 use Rattle.gpt_core.specs.{declared.layout.Places.Places, declared.table.WhichTable.WhichTable, Beside.Beside, Beside.TouchesPlaces}
 use Rattle.gpt_core.specs.{PlacesOf.places_of, Places.through, Repair.HeadersGuarded, View.view_of, View.writes_seen}
@@ -33,16 +32,8 @@ use Rattle.script_cmd.specs.Handed.{Inputs}
 
 -- ---- the program for the one command `boot`, on any told flash with nothing dirty, sound or not
 
--- the first turn tells that this bank was booted, with the version of the package that it holds
-pub record BootsBank (s : State) (b : ℕ) (journal : List Turn) : Type 0 where
-  pub turn : Turn
-  pub first : slice_get journal 0 ≡ Some turn
-  pub trials : ℕ
-  pub counter : ℕ
-  pub fallback : Bool
-  pub reply_is : turn.reply ≡ reply.Booted b (version (booted_package s b)) trials counter fallback
-
--- By the layout, the metadata and the choice: the bank that is chosen is booted, or the note says what was lacking.
+-- By the layout, the metadata and the choice. The bank that is chosen is booted, as the first turn tells, with the version of the
+-- package that it holds. Or the note says what was lacking.
 pub record BootWordBy (passes : List ℕ → Bool) (image : List ℕ) (status : ℕ) (noted : Note)
     (journal : List Turn) : Type 0 where
   pub no_layout : (f : LayoutFault) → layout_seen image ≡ Err f → (status ≡ 6) × (noted ≡ note.Boot (no_boot.Layout f))
@@ -53,7 +44,8 @@ pub record BootWordBy (passes : List ℕ → Bool) (image : List ℕ) (status : 
       → (status ≡ 6) × (noted ≡ note.Boot (no_boot.Bank s.active s.previous))
   pub bank : (E : Setting) (s : State) (b : ℕ) → layout_seen image ≡ Ok E.layout → passes ≡ E.passes
       → seen image ≡ Some s → choice E s ≡ Some b
-      → (status ≡ 0) × BootsBank s b journal
+      → (status ≡ 0) × (turn : Turn) × (slice_get journal 0 ≡ Some turn) × (trials : ℕ) × (counter : ℕ) × (fallback : Bool)
+      × (turn.reply ≡ reply.Booted b (version (booted_package s b)) trials counter fallback)
 
 -- ---- what `run` or `boot` promises, whichever way it ends
 
@@ -100,22 +92,42 @@ abbrev pub EndsByLast : List Turn → ℕ → Note → Type 0
 EndsByLast journal status noted = (n : ℕ) (t : Turn) → slice_get journal n ≡ Some t → IsTrue (ends_run t.reply)
     → (n + 1 ≡ length journal) × (status ≡ status_by t.reply) × (noted ≡ note_by t.reply)
 
--- What each turn did, on any device, one after the other from the device as it was handed in to what is left of it. It says its
--- reply, what the agent keeps, what an armed loss counts, and its causes. The files' faults begin with those that the files had
--- counted when they were handed in, so none comes before the first turn. Where a turn ran none comes behind the last.
-pub record RepliesHold (passes : List ℕ → Bool) (tells : Bool) (files : Option Directory)
-    (journal : List Turn) (old new : World) : Type 0 where
+-- What holds of the turns of any run, whichever way it ended. They began with the device as it was handed in.
+pub record RanHolds (passes : List ℕ → Bool) (tells : Bool) (files : Option Directory) (journal : List Turn)
+    (old new : World) : Type 0 where
   -- what the agent keeps at last, where a bank was started, and how often the files had failed as the turns ended
   pub on : Option Fields
   pub to : ℕ
-  pub follows : Follows passes tells files journal old.flash
-      (at on new.flash.told new.flash.writes new.flash.counts new.flash.armed new.flash.power) old.faults.files to
+  -- For every device what each turn did, from the device as it was handed in to what is left of it. Its reply is that of each
+  -- machine that the agent shows. A boot's reply tells whether an agent is there, and with which numbers it begins. While off a
+  -- call of the agent is answered `off`. What an armed loss counts is known, and so are its causes. The files' faults begin with
+  -- those that the files had counted when they were handed in, so none comes before the first turn.
+  pub follows : Follows passes tells files journal old.flash (record new.flash { on = on }) old.faults.files to
+  -- where a turn ran none comes behind the last
+  pub ends : journal ≢ [] → to ≡ new.faults.files
   -- On a device that counts its writes, whatever its reads gave, from one on which no bank was started: blocks 0 and 4 were neither
   -- erased nor programmed. Where the turns have one boot, and its agent is there at the end, nor was a block but 1 to 6 and those
   -- of the bank behind its own.
-  pub touches : old.flash.on ≡ None → RunTouches journal old.flash
-      (at on new.flash.told new.flash.writes new.flash.counts new.flash.armed new.flash.power)
-  pub ends : journal ≢ [] → to ≡ new.faults.files
+  pub touches : old.flash.on ≡ None → RunTouches journal old.flash (record new.flash { on = on })
+  -- for every device: where no turn ran it is as it was
+  pub untouched : journal ≡ [] → SameDevice old.flash new.flash
+  -- its power is by the replies
+  pub power : new.flash.power ≡ power_left old.flash.power journal
+  -- no failure and no loss is counted but those that its turns tell
+  pub once : all_stops new.flash.counts ≤ all_stops old.flash.counts + stops_of journal
+  -- the same blocks are guarded
+  pub guard : IsTrue tells → new.flash.told.guard ≡ old.flash.told.guard
+  -- where no turn is a `cut`, no armed loss is reached
+  pub free : old.flash.armed ≡ None → cuts_in journal ≡ 0 → RunsFree journal old.flash new.flash
+  -- there are no more lost turns than `cut`s and losses that the device counted, unless that count stands at the greatest number
+  pub due : LossesAreDue journal old.flash new.flash
+  -- on any told flash with nothing dirty, sound or not: a first turn that is a boot goes by the bytes
+  pub first : IsTrue tells → NothingDirty old.flash.told → (t : Turn) → slice_get journal 0 ≡ Some t
+      → t.call ≡ call.Boot → BootsFrom passes old.flash.told.now t.reply
+  -- From such a flash with blocks 1 to 7 guarded no loss harms what is in use, even where a seal came about by chance. And with
+  -- power nothing dirty or under way meets blocks 0 to 7.
+  pub guarded : IsTrue tells → NothingDirty old.flash.told → Guards 1 7 old.flash.told → IsGuarded new.flash.told
+      × (IsTrue new.flash.power → IsAtRest new.flash.told)
 
 -- The one command `boot`, on any told flash with nothing dirty, where no failure and no loss stopped it, and the list had no bad
 -- line, goes by the bytes. Where no loss was armed none that is armed can stop it.
@@ -126,43 +138,6 @@ BootWordHolds passes tells asked ending old new =
     → (old.armed ≡ None) ⊎ (Rose old.counts.reached new.counts.reached → ⊥)
     → (Rose old.counts.faults new.counts.faults → ⊥) → (Rose old.counts.cuts new.counts.cuts → ⊥)
     → BootWordBy passes old.told.now ending.status ending.noted ending.journal
-
--- What a run does to any device. Where no turn ran it is as it was. Its power is by the replies. No failure and no loss is counted
--- but those that its turns tell. The same blocks are guarded. Where no turn is a `cut`, no armed loss is reached. And there are no
--- more lost turns than `cut`s and losses that the device counted, unless that count stands at the greatest number.
-pub record RunLeaves (tells : Bool) (journal : List Turn) (old new : TurnMoment) : Type 0 where
-  pub untouched : journal ≡ [] → SameDevice old new
-  pub power : new.power ≡ power_left old.power journal
-  pub once : all_stops new.counts ≤ all_stops old.counts + stops_of journal
-  pub guard : IsTrue tells → new.told.guard ≡ old.told.guard
-  pub free : old.armed ≡ None → cuts_in journal ≡ 0 → RunsFree journal old new
-  pub due : LossesAreDue journal old new
-
--- on any told flash with nothing dirty a first turn that is a boot goes by the bytes
-abbrev pub FirstHolds : (List ℕ → Bool) → Bool → List Turn → TurnMoment → Type 0
-FirstHolds passes tells journal old =
-    IsTrue tells → NothingDirty old.told → (t : Turn) → slice_get journal 0 ≡ Some t
-    → t.call ≡ call.Boot → BootsFrom passes old.told.now t.reply
-
--- On any told flash with nothing dirty and blocks 1 to 7 guarded, no loss then harms what is in use, even where a seal came about
--- by chance. And with power nothing dirty or under way meets blocks 0 to 7.
-abbrev pub GuardedHolds : Bool → TurnMoment → TurnMoment → Type 0
-GuardedHolds tells old new =
-    IsTrue tells → NothingDirty old.told → Guards 1 7 old.told → IsGuarded new.told
-    × (IsTrue new.power → IsAtRest new.told)
-
--- What holds of the turns of any run, whichever way it ended. They began with the device as it was handed in.
-pub record RanHolds (passes : List ℕ → Bool) (tells : Bool) (files : Option Directory) (journal : List Turn)
-    (old new : World) : Type 0 where
-  -- For every device: each turn's reply is that of each machine that the agent shows. A boot's reply tells whether an agent is
-  -- there, and with which numbers it begins. While off a call of the agent is answered `off`. What an armed loss counts is known.
-  pub replies : RepliesHold passes tells files journal old new
-  -- For every device: where no turn ran it is as it was, and its power is by the replies.
-  pub device : RunLeaves tells journal old.flash new.flash
-  -- On any told flash with nothing dirty, sound or not: a first turn that is a boot goes by the bytes.
-  pub first : FirstHolds passes tells journal old.flash
-  -- From such a flash with blocks 1 to 7 guarded: no loss may harm what is in use, and with power it is at rest.
-  pub guarded : GuardedHolds tells old.flash new.flash
 
 -- from a sound flash all is done, where nothing was lacking and nothing failed, unless memory was wanting
 abbrev pub CompleteHolds : (List ℕ → Bool) → Bool → Inputs → Ending Note → World → World → Type 0
@@ -216,6 +191,10 @@ WaysArePromised =
 
 -- ---- what `run --gpt` or `boot --gpt` promises, whichever way it ends
 
+-- what is compared, of the flash that a device has at these places
+abbrev pub seen_in : Places → World → World
+seen_in p w = record w { flash = seen_at p w.flash }
+
 -- A run began on the flash that a device has at the places that its table gives.
 pub record RunsByTable (passes : List ℕ → Bool) (device : Device) (inputs : Inputs) (ending : Ending own.Note)
     (old new : World) : Type 0 where
@@ -232,7 +211,7 @@ pub record RunsByTable (passes : List ℕ → Bool) (device : Device) (inputs : 
   pub seen : IsTrue device.tells → NothingDirty old.flash.told → view_of places start.told ≡ view_of places old.flash.told
   -- all that a run promises, of the flash at these places
   pub promises : Promised passes device.tells inputs (in_model ending)
-      (record old { flash = seen_at places start }) (record new { flash = seen_at places new.flash })
+      (record old { flash = seen_at places start }) (seen_in places new)
   -- and no lack of a table is noted
   pub plain : IsFalse (is_beyond_model ending.noted)
 
@@ -269,13 +248,11 @@ pub record TableGives (blocks : ℕ) (image : List ℕ) (p : Places) : Type 0 wh
   pub gives : places_of blocks table ≡ Ok p
 
 -- from a sound flash behind a valid table the headline, for the calls that are asked for
-abbrev pub HeadlineByTable : (List ℕ → Bool) → Device → Inputs → Ending own.Note → TurnMoment → TurnMoment → Type 0
+abbrev pub HeadlineByTable : (List ℕ → Bool) → Device → Inputs → Ending own.Note → World → World → Type 0
 HeadlineByTable passes device inputs ending old new =
-    IsTrue device.tells → (p : Places) (E : Setting) (start : State) (calls : List Call)
-    → NothingDirty old.told → TableGives device.blocks old.told.now p
-    → Premises E start (view_of p old.told) inputs.files passes old.counts new.counts
-    → Asks (in_short inputs.asked) inputs.source calls → (ending.journal ≢ []) ⊎ (ending.status ≡ 0)
-    → Headline E start (outcome calls ending.journal ending.status (seen_at p old) (seen_at p new))
+    (p : Places) → NothingDirty old.flash.told → TableGives device.blocks old.flash.told.now p
+    → (ending.journal ≢ []) ⊎ (ending.status ≡ 0)
+    → HeadlineHolds passes device.tells inputs (in_model ending) (seen_in p old) (seen_in p new)
 
 -- Where no turn ran and not all was done, the flash behind a valid table is the same in each image that a loss may
 -- leave. Where both headers are guarded so is the table that decides.
@@ -292,14 +269,9 @@ KeptByTable device ending old new =
 -- unless memory was wanting.
 abbrev pub CompleteByTable : (List ℕ → Bool) → Device → Inputs → Ending own.Note → World → World → Type 0
 CompleteByTable passes device inputs ending old new =
-    IsTrue device.tells → (p : Places) (E : Setting) (start : State) (calls : List Call) (script : List ℕ)
-    → NothingDirty old.flash.told → TableGives device.blocks old.flash.told.now p
-    → Premises E start (view_of p old.flash.told) inputs.files passes old.flash.counts new.flash.counts
-    → Asks (in_short inputs.asked) inputs.source calls → script_asked (in_short inputs.asked) inputs.source ≡ Some script
-    → IsServed (outcome calls ending.journal ending.status (seen_at p old.flash) (seen_at p new.flash))
-    (in_short inputs.asked) inputs.list inputs.files script old.faults new.faults
+    (p : Places) → NothingDirty old.flash.told → TableGives device.blocks old.flash.told.now p
     → (ending.journal ≡ [] → Rose old.flash.counts.cuts new.flash.counts.cuts → ⊥)
-    → (ending.status ≡ 0) ⊎ (ending.status ≡ 9)
+    → CompleteHolds passes device.tells inputs (in_model ending) (seen_in p old) (seen_in p new)
 
 -- All that `run --gpt` or `boot --gpt` promises.
 pub record PromisedByTable (passes : List ℕ → Bool) (device : Device) (inputs : Inputs) (ending : Ending own.Note)
@@ -312,6 +284,6 @@ pub record PromisedByTable (passes : List ℕ → Bool) (device : Device) (input
   -- Where none began, no loss harms the flash behind a valid table.
   pub kept : KeptByTable device ending old.flash new.flash
   -- From a sound flash behind a valid table: the turns are those of the machine.
-  pub headline : HeadlineByTable passes device inputs ending old.flash new.flash
+  pub headline : HeadlineByTable passes device inputs ending old new
   -- And all is done.
   pub complete : CompleteByTable passes device inputs ending old new

@@ -1,9 +1,9 @@
 -- What the command `serve` promises, whichever way it ends.
 use Rattle.std.specs.Prelude.{◌≡◌, ℕ, Bool, List, Option, ◌≢◌, ◌≤◌, ◌<◌, ◌⊎◌, ◌||◌, ◌==◌, ◌++◌, Some, IfSome, IsSome, ◌↔◌, []}
-use Rattle.std.specs.Prelude.{◌+◌, ◌∷◌, Err, IsTrue, IsFalse, drop, length, take, slice_get, Contains, Ok}
-use Rattle.fwu_model.specs.{Reply.Turn, declared.kinds.Note.Note, Allow.list_bytes, Causes.LacksList, Contract.Premises}
-use Rattle.fwu_model.specs.{Causes.cuts_in, Headline.made_after, Sound.Setting, State.State, Wrote.IsBadList}
-use Rattle.fwu_model.specs.declared.kinds.NoBoot.{NoBoot}
+use Rattle.std.specs.Prelude.{◌+◌, All, Err, IsTrue, IsFalse, drop, length, take, slice_get, Ok}
+use Rattle.fwu_model.specs.{Reply.Turn, declared.kinds.Note.Note, declared.kinds.NoBoot.NoBoot, Allow.list_bytes, Causes.LacksList}
+use Rattle.fwu_model.specs.{Causes.cuts_in, Contract.Premises, Headline.Headline, Headline.IsPrefixOf, Headline.made_after}
+use Rattle.fwu_model.specs.{Sound.Setting, State.State, Wrote.IsBadList}
 use Rattle.fwu_model.specs.declared.kinds.Note.TheVariants as note
 use Rattle.fwu_model.specs.Call as call
 use Rattle.fwu_words.specs.Order as ask
@@ -18,9 +18,8 @@ use Rattle.flash_commands.specs.Showing.{RefusedList}
 use Rattle.std.specs.Io.KnownBytes.{Appends, Consumes}
 use Rattle.flash_core.specs.Counts.{Rose}
 use Rattle.serving.specs.Written.{answered_numbers, calls_for, frame_of, messages_of, all_frames}
-use Rattle.fwu_model.specs.Headline.{Headline, IsPrefixOf}
 use Rattle.fwu_model.specs.Reply as reply
-use Rattle.script_cmd.specs.{Promises.EndsByLast, Promises.RanHolds, Promises.outcome, Granted.IsGranted, Granted.RefusesBadList}
+use Rattle.script_cmd.specs.{Promises.EndsByLast, Promises.RanHolds, Promises.outcome, Handed.IsGranted, Handed.RefusesBadList}
 
 -- ---- the turns
 
@@ -42,13 +41,6 @@ may_end_serving status =
     (status == 0) || (status == 2) || (status == 3) || (status == 5) || (status == 6) || (status == 8) || (status == 9)
     || (status == 11) || (status == 12) || (status == 13)
 
--- These bytes were taken of the source: one more than 1 GiB at last, and so many exactly at 8.
-pub record TakesAtMost (status : ℕ) (stream rest : Option (List ℕ)) : Type 0 where
-  pub given : List ℕ
-  pub consumed : Consumes stream rest given
-  pub few : length given ≤ most_bytes + 1
-  pub too_long : (status ≡ 8) ↔ (most_bytes < length given)
-
 -- The statuses by their causes, on any device, files, source and sink. Want of memory, 9, has no other cause.
 pub record ServedEnds (g : Given) (ending : Ending Note) (old new : World) (rest : Option (List ℕ)) : Type 0 where
   -- there is no other status
@@ -68,8 +60,9 @@ pub record ServedEnds (g : Given) (ending : Ending Note) (old new : World) (rest
   pub flash_fault : ending.status ≡ 5 → EndsWith ending.journal reply.Fault × Rose old.flash.counts.faults new.flash.counts.faults
   -- the one turn is a boot that started no bank, and why is noted
   pub not_booted : ending.status ≡ 6 → (why : NoBoot) × RefusesBoot ending.journal why × (ending.noted ≡ note.Boot why)
-  -- the source gave byte 1,073,741,825, and at no other status did it
-  pub taken : TakesAtMost ending.status g.script rest
+  -- so much was taken of the source: byte 1,073,741,825 at 8, as the last one, and at no other status
+  pub taken : (given : List ℕ) × Consumes g.script rest given × (length given ≤ most_bytes + 1)
+      × ((ending.status ≡ 8) ↔ (most_bytes < length given))
   -- and so it has more than 1 GiB
   pub too_long : ending.status ≡ 8 → IfSome g.script (λ stream. most_bytes < length stream)
   -- a length that no body has, or an end inside a frame, stands behind whole frames
@@ -115,7 +108,7 @@ pub record WroteFrames (stream rest : Option (List ℕ)) (ending : Ending Note) 
   pub begin : IsPrefixOf turns (drop 1 ending.journal)
   pub all_turns : IsTrue (reads_no_more ending.status) → turns ≡ drop 1 ending.journal
   -- none of them ends the serving: a request whose turn does has no frame
-  pub goes : (t : Turn) → Contains turns t → end_by t.reply ≡ Ok tt
+  pub goes : All (λ (t : Turn). end_by t.reply ≡ Ok tt) turns
   -- each request that acts has its turn, and no other turn is there; want of memory alone may leave none at all
   pub calls : calls_of turns ≡ calls_for bodies
   pub all_calls : IsPrefixOf (calls_of (drop 1 ending.journal)) (calls_for (bodies ++ more))
@@ -127,11 +120,6 @@ pub record WroteFrames (stream rest : Option (List ℕ)) (ending : Ending Note) 
   pub front : ending.status ≡ 3 → (n : ℕ) × (part ≡ take n (last_frame (drop 1 ending.journal)))
   -- only a boot that started no bank is noted
   pub quiet : ending.status ≢ 6 → ending.noted ≡ note.Nothing
-
--- At every status, over every device, files, source and sink: what was written are frames, or the line of a list that was refused.
-abbrev pub ServedWrites : Given → Ending Note → World → World → Option (List ℕ) → Type 0
-ServedWrites g ending old new rest = WroteFrames g.script rest ending old.taken new.taken
-    ⊎ ((ending.journal ≡ []) × RefusedList ask.serve g ending.status ending.noted old new)
 
 -- ---- all is served
 
@@ -173,7 +161,9 @@ pub record ServedBy (passes : List ℕ → Bool) (tells : Bool) (g : Given) (end
   pub first : (t : Turn) (e : ServeEnd) → slice_get ending.journal 0 ≡ Some t → end_by t.reply ≡ Err e → Unread g old new rest
   -- For every device, files, source and sink: each status has its cause.
   pub ends : ServedEnds g ending old new rest
-  -- For every device, files, source and sink: what was answered, by which turns, and what the sink took, at every status.
-  pub wrote : ServedWrites g ending old new rest
+  -- For every device, files, source and sink: what was answered, by which turns, and what the sink took, at every status. That
+  -- are frames, or the line of a list that was refused.
+  pub wrote : WroteFrames g.script rest ending old.taken new.taken
+      ⊎ ((ending.journal ≡ []) × RefusedList ask.serve g ending.status ending.noted old new)
   -- From a sound flash all requests are served, where nothing was lacking and nothing failed, unless memory was wanting.
   pub complete : ServedComplete passes tells g ending old new

@@ -7,11 +7,10 @@ use Rattle.flash_format.specs.{Formatted.IsFormatted, Formatted.first_state, dec
 use Rattle.flash_format.specs.{declared.stops.FormatStop.FormatStop, declared.stops.InputFault.InputFault}
 use Rattle.flash_format.specs.declared.stops.FormatStop.TheVariants.{Input}
 use Rattle.flash_format.specs.declared.stops.InputFault.TheVariants as fault
-use Rattle.fwu_model.specs.{Reply.Turn, Seen.seen, Sound.Setting, Headline.Headline, Headline.made_after, Causes.Faults}
+use Rattle.fwu_model.specs.{Reply.Turn, Seen.seen, Sound.Setting, Headline.Headline, Headline.IsPrefixOf, Headline.made_after}
 use Rattle.fwu_model.specs.{Causes.LacksList, Causes.cuts_in, Causes.may_fail_before, Allow.list_bytes, Wrote.IsBadList}
-use Rattle.fwu_model.specs.{Headline.IsPrefixOf, Wrote.bad_list_line, Wrote.not_read_line}
+use Rattle.fwu_model.specs.{declared.kinds.NoBoot.NoBoot, Wrote.bad_list_line, Wrote.not_read_line}
 use Rattle.fwu_model.specs.Text as text
-use Rattle.fwu_model.specs.declared.kinds.NoBoot.{NoBoot}
 use Rattle.fwu_model.specs.Reply as reply
 use Rattle.gen_core.specs.{Calls.file_name, Calls.soak_calls, Generated.generated_images, Line.soak_line, Line.too_small_line}
 use Rattle.gen_core.specs.{Rounds.sizes_in_round, Setup.is_too_small, Setup.soak_layout}
@@ -23,7 +22,7 @@ use Rattle.script_runs.specs.{ByTable.StopHasCause, ByTable.flash_fault_line, Wa
 use Rattle.script_runs.specs.declared.done.Note.TheVariants as note
 use Rattle.flash_commands.specs.{Formatting.Tries, Formatting.format_note, Formatting.format_text, Soaking.first_files}
 use Rattle.flash_commands.specs.Soaking.{soak_files}
-use Rattle.script_cmd.specs.{Promises.EndsByLast, Promises.RanHolds, Promises.outcome, Granted.RefusesBadList}
+use Rattle.script_cmd.specs.{Promises.EndsByLast, Promises.RanHolds, Promises.outcome, Handed.HasReadList, Handed.RefusesBadList}
 
 -- the packages of all rounds are the files, and any manifest passes
 abbrev pub soak_setting : ℕ → ℕ → Setting
@@ -43,12 +42,6 @@ pub record RunsSoak (seed n : ℕ) (journal : List Turn) (status : ℕ) (new : T
   pub run : Headline (soak_setting seed n) (first_state soak_layout (first_images seed))
       (outcome (soak_calls seed n) journal status start new)
 
--- where a list of digests is named, it is there, was read and has no bad line
-pub record HasSoakList (g : Given) (faults_before faults_after : Faults) : Type 0 where
-  pub there : LacksList g.files g.list → ⊥
-  pub good : (k : ℕ) → IsSome g.list → IsBadList (list_bytes g.list g.files) k → ⊥
-  pub read : Rose faults_before.files faults_after.files → ⊥
-
 -- ---- what it did to the flash
 
 -- Nothing was done: for a list, for want of memory, or since the flash is too small.
@@ -56,7 +49,7 @@ pub record IsIdleSoak (device : Device) (g : Given) (ending : Ending Note) (old 
   pub no_turns : ending.journal ≡ []
   pub same : new.flash ≡ old.flash
   pub status_is : IsTrue ((ending.status == 7) || (may_fail_before ending.status || (ending.status == 13)))
-  pub why : HasSoakList g old.faults new.faults → IsFalse (is_too_small device.blocks)
+  pub why : HasReadList g old.faults new.faults → IsFalse (is_too_small device.blocks)
       → (ending.status ≡ 9) × (ending.noted ≡ note.Nothing)
 
 -- a soak whose flash is so, and whose own files never fail
@@ -144,5 +137,5 @@ pub record SoakedBy (device : Device) (g : Given) (seed rounds : ℕ) (ending : 
       → (Rose old.flash.counts.chances new.flash.counts.chances → ⊥)
       → (Rose old.flash.counts.faults new.flash.counts.faults → ⊥)
       → (ending.journal ≡ [] → Rose old.flash.counts.cuts new.flash.counts.cuts → ⊥)
-      → HasSoakList g old.faults new.faults → (Rose old.faults.sink new.faults.sink → ⊥)
+      → HasReadList g old.faults new.faults → (Rose old.faults.sink new.faults.sink → ⊥)
       → (ending.status ≡ 0) ⊎ (ending.status ≡ 9)

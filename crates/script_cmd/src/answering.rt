@@ -1,14 +1,14 @@
 //! What the words ask for is done, in one of the ways that it may end.
-ghost use Rattle.std.specs.Prelude.{◌≡◌, Some, None, map, string_bytes, IsFalse};
+ghost use Rattle.std.specs.Prelude.{◌≡◌, Some, None, map, string_bytes, true, IsFalse};
 ghost use Rattle.host_io.specs.Once.{ReadsOnce};
 ghost use Rattle.host_io.specs.Reads.{ReadsFiles};
-ghost use Rattle.fwu_model.specs.Allow.{asks_list, list_name};
+ghost use Rattle.fwu_model.specs.Allow.{asks_list};
 ghost use Rattle.fwu_words.specs.Order.{asked};
-ghost use Rattle.script_cmd.specs.Here.{AnsweredHere, AnswersHere};
+ghost use Rattle.script_cmd.specs.Here.{Answered};
 ghost use Rattle.script_cmd.specs.Handed.{by_list, unlisted, inputs_of};
-ghost use Rattle.script_cmd.specs.ReadsInputs.{IsUnasked};
+ghost use Rattle.script_cmd.specs.Serves.{IsUnasked, ServesByList};
 ghost use Rattle.script_runs.specs.Ending.{ending};
-ghost use Rattle.script_cmd.specs.ByList.{HasPasses, ReadsList};
+ghost use Rattle.script_runs.specs.Ways.{described, world};
 
 use crate::serving_command::serve_source;
 use allow_list::{ListStop, read_list};
@@ -27,19 +27,21 @@ pub fn answer_with<D: Flash, H: Files, I: Source, O: Sink, V: Verifier>(
     files: &mut H,
     source: &mut I,
     sink: &mut O,
-    board: Board<'_, D, V>,
+    flash: D,
+    verifier: &V,
 ) -> Done<D>
-    requires off { IsFalse (D.on board.flash) }
-    requires unarmed { D.arming board.flash ≡ None }
-    ensures answers { AnsweredHere D.Flash H.Files I.Source O.Sink (V.passes board.entry.verifier.now)
-        (unlisted H.Files I.Source (map string_bytes words.now) files.old source.old)
-        board.entry.flash files.old source.old sink.old result files.new source.new sink.new }
+    requires off { IsFalse (D.on flash) }
+    requires unarmed { D.arming flash ≡ None }
+    ensures answers { Answered (V.passes verifier.now) (described D.Flash flash)
+        (unlisted H.Files I.Source (map string_bytes words.now) files.old source.old) (ending result)
+        (world D.Flash H.Files I.Source O.Sink flash files.old source.old sink.old)
+        (world D.Flash H.Files I.Source O.Sink result.flash files.new source.new sink.new)
+        (I.left source.new) files.old files.new source.old source.new }
     ensures reads { ReadsFiles H.Files (IsUnasked (unlisted H.Files I.Source (map string_bytes words.now) files.old source.old)
         (ending result).journal) files.old files.new }
     ensures once { ReadsOnce I.Source source.old source.new }
-    ensures size { D.blocks result.flash ≡ D.blocks board.entry.flash }
+    ensures size { D.blocks result.flash ≡ D.blocks flash }
 {
-    let Board { flash, verifier } = board;
     match fwu_order(alloc, words) {
         Ok(Order::Turns(order)) => {
             let board = Board { flash, verifier };
@@ -54,17 +56,11 @@ pub fn answer_with<D: Flash, H: Files, I: Source, O: Sink, V: Verifier>(
     }
 }
 
-/// The words behind `--allow`: the name of a list, and what follows.
-#[derive(Clone, Copy)]
-struct Listed<'a> {
-    name: &'a str,
-    rest: &'a [String],
-}
-
-/// Does what the words behind a list of digests ask for, for the manifests that it lists.
+/// Does what the words behind the name of a list of digests ask for, for the manifests that it lists.
 fn run_listed<D: Flash, H: Files, I: Source, O: Sink>(
     alloc: Global,
-    listed: Listed<'_>,
+    name: &str,
+    rest: &[String],
     files: &mut H,
     source: &mut I,
     sink: &mut O,
@@ -72,20 +68,21 @@ fn run_listed<D: Flash, H: Files, I: Source, O: Sink>(
 ) -> Done<D>
     requires off { IsFalse (D.on flash) }
     requires unarmed { D.arming flash ≡ None }
-    ensures answers { AnswersHere D.Flash H.Files I.Source O.Sink (ReadsList (Some listed.entry.name.now) (H.contents files.old))
-        (inputs_of H.Files I.Source (asked (map string_bytes listed.entry.rest.now)) (Some listed.entry.name.now) files.old source.old)
-        flash files.old source.old sink.old result files.new source.new sink.new }
+    ensures serves { ServesByList true (described D.Flash flash)
+        (inputs_of H.Files I.Source (asked (map string_bytes rest.now)) (Some name.now) files.old source.old)
+        (ending result) (world D.Flash H.Files I.Source O.Sink flash files.old source.old sink.old)
+        (world D.Flash H.Files I.Source O.Sink result.flash files.new source.new sink.new)
+        (I.left source.new) files.old files.new source.old source.new }
     ensures reads { ReadsFiles H.Files (IsUnasked
-        (inputs_of H.Files I.Source (asked (map string_bytes listed.entry.rest.now)) (Some listed.entry.name.now) files.old source.old)
+        (inputs_of H.Files I.Source (asked (map string_bytes rest.now)) (Some name.now) files.old source.old)
         (ending result).journal) files.old files.new }
     ensures once { ReadsOnce I.Source source.old source.new }
     ensures size { D.blocks result.flash ≡ D.blocks flash }
 {
-    match read_list(alloc, files, listed.name) {
+    match read_list(alloc, files, name) {
         Ok(list) => {
             let verifier = &list;
-            let board = Board { flash, verifier };
-            answer_with(alloc, listed.rest, files, source, sink, board)
+            answer_with(alloc, rest, files, source, sink, flash, verifier)
         }
         Err(ListStop::Failed) => refuse(alloc, sink, Refusal::Unread, flash),
         Err(ListStop::BadLine(line)) => refuse(alloc, sink, Refusal::BadList(line), flash),
@@ -104,10 +101,11 @@ pub fn answer<D: Flash, H: Files, I: Source, O: Sink>(
 ) -> Done<D>
     requires off { IsFalse (D.on flash) }
     requires unarmed { D.arming flash ≡ None }
-    ensures answers { AnswersHere D.Flash H.Files I.Source O.Sink
-        (HasPasses (asks_list (map string_bytes words.now)) (list_name (map string_bytes words.now)) (H.contents files.old))
-        (by_list H.Files I.Source (map string_bytes words.now) files.old source.old)
-        flash files.old source.old sink.old result files.new source.new sink.new }
+    ensures serves { ServesByList (asks_list (map string_bytes words.now)) (described D.Flash flash)
+        (by_list H.Files I.Source (map string_bytes words.now) files.old source.old) (ending result)
+        (world D.Flash H.Files I.Source O.Sink flash files.old source.old sink.old)
+        (world D.Flash H.Files I.Source O.Sink result.flash files.new source.new sink.new)
+        (I.left source.new) files.old files.new source.old source.new }
     ensures reads { ReadsFiles H.Files (IsUnasked (by_list H.Files I.Source (map string_bytes words.now) files.old source.old)
         (ending result).journal) files.old files.new }
     ensures once { ReadsOnce I.Source source.old source.new }
@@ -116,13 +114,9 @@ pub fn answer<D: Flash, H: Files, I: Source, O: Sink>(
     match allow_of(words) {
         Allow::No => {
             let verifier = &AnyManifest;
-            let board = Board { flash, verifier };
-            answer_with(alloc, words, files, source, sink, board)
+            answer_with(alloc, words, files, source, sink, flash, verifier)
         }
         Allow::Usage => refuse(alloc, sink, Refusal::Usage, flash),
-        Allow::File { name, rest } => {
-            let listed = Listed { name, rest };
-            run_listed(alloc, listed, files, source, sink, flash)
-        }
+        Allow::File { name, rest } => run_listed(alloc, name, rest, files, source, sink, flash),
     }
 }

@@ -2,8 +2,8 @@
 ghost use Rattle.std.specs.Prelude.{◌≡◌, ◌≤◌, None, IsFalse};
 ghost use Rattle.host_io.specs.Once.{ReadsOnce};
 ghost use Rattle.script_runs.specs.Ending.{ending, in_model, is_beyond_model, noted};
-ghost use Rattle.flash_commands.specs.Here.{without_list};
-ghost use Rattle.script_cmd.specs.Here.{ServeWay, note_of, world};
+ghost use Rattle.script_runs.specs.Ways.{without_list, world};
+ghost use Rattle.script_cmd.specs.Here.{ServeWay, note_of};
 
 use flash_core::Flash;
 use host_io::{Files, Sink, Source};

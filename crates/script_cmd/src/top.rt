@@ -1,18 +1,17 @@
 //! The program as one call.
 ghost use Rattle.std.specs.Prelude.{◌≡◌, None, map, string_bytes, IsFalse};
+ghost use Rattle.fwu_model.specs.Allow.{asks_list};
 ghost use Rattle.host_io.specs.Once.{ReadsOnce};
 ghost use Rattle.host_io.specs.Reads.{ReadsFiles};
 ghost use Rattle.script_runs.specs.Ending.{ending};
 ghost use Rattle.script_cmd.specs.Handed.{by_list, unlisted};
-ghost use Rattle.script_cmd.specs.Serves.{Serves, ServesByList};
-ghost use Rattle.script_cmd.specs.ReadsInputs.{IsUnasked};
-ghost use Rattle.script_runs.specs.Ways.{described};
-ghost use Rattle.script_cmd.specs.Here.{world};
+ghost use Rattle.script_cmd.specs.Serves.{IsUnasked, Serves, ServesByList};
+ghost use Rattle.script_runs.specs.Ways.{described, world};
 
 use crate::answering::{answer, answer_with};
 use flash_core::Flash;
 use host_io::{Files, Sink, Source};
-use script_runs::{Board, Done};
+use script_runs::Done;
 use std::alloc::Global;
 use verify_core::Verifier;
 
@@ -52,8 +51,7 @@ pub fn fwu_top_with<D: Flash, H: Files, I: Source, O: Sink, V: Verifier>(
     ensures once { ReadsOnce I.Source source.old source.new }
     ensures size { D.blocks result.flash ≡ D.blocks flash }
 {
-    let board = Board { flash, verifier };
-    answer_with(alloc, words, files, source, sink, board)
+    answer_with(alloc, words, files, source, sink, flash, verifier)
 }
 
 /// `fwu_top_with` for any manifest, or where the words begin with `--allow FILE`, for those whose digests that file lists. A list
@@ -72,7 +70,7 @@ pub fn fwu_top<D: Flash, H: Files, I: Source, O: Sink>(
     requires unarmed { D.arming flash ≡ None }
 
     // By the manifests that the list has; where one is named and none was read nothing was done, and it holds whichever pass.
-    ensures serves { ServesByList (map string_bytes words.now) (described D.Flash flash)
+    ensures serves { ServesByList (asks_list (map string_bytes words.now)) (described D.Flash flash)
         (by_list H.Files I.Source (map string_bytes words.now) files.old source.old) (ending result)
         (world D.Flash H.Files I.Source O.Sink flash files.old source.old sink.old)
         (world D.Flash H.Files I.Source O.Sink result.flash files.new source.new sink.new)

@@ -10,7 +10,7 @@ use Rattle.host_io.specs.Once.{ReadsOnce}
 use Rattle.host_io.specs.declared.source.Source as source
 use Rattle.fwu_words.specs.declared.orders.ScriptFrom.TheVariants as origin
 use Rattle.script_turns.specs.Runs.{sends_none}
-use Rattle.script_runs.specs.Refusing.{LacksScript, in_short, plan_of, text_of}
+use Rattle.script_runs.specs.Sourced.{LacksScript, in_short, plan_of, text_of}
 use Rattle.script_runs.specs.Sourced.{FailsOnce, MakesScript, StarvesScript, TakesScript}
 use Rattle.script_runs.specs.{Ways.AsksTurns, Ways.HasCalls, declared.refusing.Refusal.Refusal}
 use Rattle.script_runs.specs.declared.refusing.Refusal.TheVariants as why

@@ -10,7 +10,7 @@ use Rattle.host_io.specs.Printed.{Prints}
 use Rattle.script_turns.specs.Powered.{TurnMoment}
 use Rattle.script_runs.specs.{Ending.is_beyond_model, Ending.noted, declared.done.Note.Note, declared.refusing.Refusal.Refusal}
 use Rattle.script_runs.specs.{Ways.AsksTurns, Ways.Given, Ways.HasGoodList, Ways.Refuses, Ways.Way, WaysByTable.WayAt, WaysByTable.untouched}
-use Rattle.script_runs.specs.Refusing.{LacksScript, plain_of, plan_of, text_of}
+use Rattle.script_runs.specs.Sourced.{LacksScript, plain_of, plan_of, text_of}
 use Rattle.script_runs.specs.Ways as way
 use Rattle.script_runs.specs.declared.refusing.Refusal.TheVariants as why
 use Rattle.script_runs.proofs.{TopWays.device-of, TopWays.end-of, TopWays.world-of, TopWays.refused-by, TableWays.not-nothing}

@@ -17,7 +17,7 @@ use Rattle.fwu_model.specs.declared.kinds.Note.TheVariants as note
 use Rattle.fwu_model.specs.Reply as reply
 use Rattle.script_turns.proofs.RunTurns.{ran-none, ran-on}
 use Rattle.script_runs.proofs.TopSources.{counts-line, later}
-use Rattle.script_runs.specs.Running.{IsUnnamedIn, DoesTurn, ScriptEnded, WritesLines, Printed, last_turn, status_of_last, note_of_last}
+use Rattle.script_runs.specs.Ending.{IsUnnamedIn, DoesTurn, ScriptEnded, WritesLines, Printed, last_turn, status_of_last, note_of_last}
 
 -- those behind one that was taken stay
 pub left-behind : (calls : List Call) (i : ℕ) (c : Call) (k : ℕ) → i + 1 ≤ k → slice_get (slice_set calls i c) k ≡ slice_get calls k

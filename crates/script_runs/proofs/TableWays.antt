@@ -6,7 +6,7 @@ use Rattle.host_io.specs.{Contents.Directory, Printed.Prints}
 use Rattle.fwu_words.specs.Order.{Asked}
 use Rattle.script_turns.specs.Powered.{TurnMoment, at}
 use Rattle.script_runs.specs.{declared.done.Note.Note, Ending.is_beyond_model, Ending.noted}
-use Rattle.script_runs.specs.{Running.Printed, Ways.Given, Ways.HasGoodList, Ways.Refuses}
+use Rattle.script_runs.specs.{Ending.Printed, Ways.Given, Ways.HasGoodList, Ways.Refuses}
 use Rattle.script_runs.specs.declared.done.Note.TheVariants as note
 use Rattle.script_runs.specs.ByTable.{flash_fault_line, no_table_line, seen_at}
 use Rattle.script_runs.specs.Ways as way

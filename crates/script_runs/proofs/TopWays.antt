@@ -7,7 +7,7 @@ use Rattle.std.proofs.lemmas.Bool.{false≢true}
 use Rattle.flash_core.specs.Counts.{Rose}
 use Rattle.host_io.specs.{Contents.Directory, Printed.Prints}
 use Rattle.fwu_words.specs.Order.{Asked, asked}
-use Rattle.script_runs.specs.{Ending.Device, Ending.Ending, Ending.World, Running.Printed}
+use Rattle.script_runs.specs.{Ending.Device, Ending.Ending, Ending.World, Ending.Printed}
 use Rattle.script_runs.specs.Ways.{Given, HasGoodList, Refuses, Way, bad_list, bad_script, list_not_read, not_read, ran, refused, starved, too_long, usage}
 
 -- ---- a run's end, and what it may change, from their parts

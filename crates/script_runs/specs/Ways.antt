@@ -9,17 +9,23 @@ use Rattle.fwu_formats.specs.Digests.{digests_of}
 use Rattle.fwu_model.specs.declared.kinds.Note.TheVariants as note
 use Rattle.fwu_words.specs.Order.{Asked}
 use Rattle.fwu_words.specs.Order as ask
-use Rattle.script_turns.specs.{Powered.at, Powered.moment, Runs.Ran}
+use Rattle.script_turns.specs.{Powered.moment, Runs.Ran}
 use Rattle.flash_core.specs.declared.flash.Flash as flash
+use Rattle.host_io.specs.declared.files.Files as files
+use Rattle.host_io.specs.declared.source.Source as source
 use Rattle.host_io.specs.declared.sink.Sink as sink
 use Rattle.host_io.specs.Printed.{Prints}
-use Rattle.script_runs.specs.{Ending.Device, Ending.Ending, Ending.PutsNone, Ending.World, Running.ScriptEnded, Running.Printed}
+use Rattle.script_runs.specs.{Ending.Device, Ending.Ending, Ending.PutsNone, Ending.World, Ending.ScriptEnded, Ending.Printed}
 
 -- what the program was given to read: the list's name, the told files, and the script that is told
 pub record Given : Type 0 where
   pub list : Option (List ℕ)
   pub files : Option (List ℕ → Option (List ℕ))
   pub script : Option (List ℕ)
+
+-- what a command was given that names no list, with this script
+abbrev pub without_list : {H : Type 0} → files.Ghosts H → Option (List ℕ) → H → Given
+without_list h script files = record { list = None; files = h.contents files; script = script }
 
 -- `run` or `boot` is asked for
 abbrev pub AsksTurns : Option Asked → Type 0
@@ -59,6 +65,18 @@ moment_world d o faults flash sink =
       faults = record faults { sink = o.faults sink };
     }
 
+-- the same, of files that count so, where the source counts this many failures
+abbrev pub world_at : {D H O : Type 0} → flash.Ghosts D → files.Ghosts H → sink.Ghosts O → ℕ → D → H → O → World
+world_at d h o source flash files sink = moment_world d o (record { files = h.faults files; source = source; sink = 0 }) flash sink
+
+-- and of a source
+abbrev pub world : {D H I O : Type 0} → flash.Ghosts D → files.Ghosts H → source.Ghosts I → sink.Ghosts O → D → H → I → O → World
+world d h i o flash files source sink = world_at d h o (i.faults source) flash files sink
+
+-- what a line that was put into this sink makes of a status
+abbrev pub PrintsTo : {O : Type 0} → sink.Ghosts O → List ℕ → ℕ → ℕ → O → O → Type 0
+PrintsTo o piece planned status old new = Prints piece planned status (o.taken old) (o.taken new) (o.faults old) (o.faults new)
+
 -- what a device is
 abbrev pub described : {D : Type 0} → flash.Ghosts D → D → Device
 described d flash = record { tells = d.tells; blocks = d.blocks flash }
@@ -74,8 +92,7 @@ pub data Way (passes : List ℕ → Bool) (tells : Bool) (asked : Option Asked) 
       → Prints line planned ending.status old.taken new.taken old.faults.sink new.faults.sink
       → Way passes tells asked g ending old new
   ran : (calls : List Call) (on : Option Fields) → HasGoodList g.list g.files → AsksTurns asked → HasCalls g.script calls
-      → Ran passes tells g.files ending.journal old.flash
-      (at on new.flash.told new.flash.writes new.flash.counts new.flash.armed new.flash.power) old.faults.files new.faults.files
+      → Ran passes tells g.files ending.journal old.flash (record new.flash { on = on }) old.faults.files new.faults.files
       → ScriptEnded calls ending.journal ending.status ending.noted
       → Printed ending.journal ending.status old.taken new.taken old.faults.sink new.faults.sink
       → Way passes tells asked g ending old new

@@ -10,13 +10,12 @@ ghost use Rattle.gpt_core.specs.Beside.{Beside, TouchesPlaces};
 ghost use Rattle.gpt_core.specs.Mapped.{device, places_of};
 ghost use Rattle.gpt_core.specs.Places.{Fit};
 ghost use Rattle.script_runs.specs.ByTable.{seen_at};
-ghost use Rattle.script_runs.specs.Here.{GoesAt};
 ghost use Rattle.script_runs.specs.Ending.{ending};
 ghost use Rattle.script_turns.specs.Powered.{moment, moment_on};
-ghost use Rattle.script_runs.specs.Running.{EndsRun, IsUnnamedIn, KeepsFiles};
+ghost use Rattle.script_runs.specs.Ending.{EndsRun, IsUnnamedIn, KeepsFiles};
 ghost use Rattle.script_turns.specs.Runs.{Ran, calls_of, sends_none};
 ghost use Rattle.script_runs.specs.Ways.{Given};
-ghost use Rattle.script_runs.specs.WaysByTable.{ReadsScript};
+ghost use Rattle.script_runs.specs.WaysByTable.{GoesAt, ReadsScript};
 
 use crate::done::Done;
 use crate::opening::{Unopened, open};

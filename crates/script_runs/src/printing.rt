@@ -1,7 +1,7 @@
 //! Lines that are put into the sink.
 ghost use Rattle.std.specs.Prelude.{◌≡◌};
 ghost use Rattle.fwu_model.specs.Wrote.{usage_line};
-ghost use Rattle.script_runs.specs.Here.{PrintsTo};
+ghost use Rattle.script_runs.specs.Ways.{PrintsTo};
 
 use host_io::{Sink, WriteStop};
 

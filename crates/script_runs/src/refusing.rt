@@ -2,9 +2,9 @@
 ghost use Rattle.std.specs.Prelude.{◌≡◌, []};
 ghost use Rattle.fwu_journal.specs.Shown.{turns};
 ghost use Rattle.fwu_model.specs.Wrote.{bad_list_line, bad_script_line};
-ghost use Rattle.script_runs.specs.Here.{PrintsTo};
+ghost use Rattle.script_runs.specs.Ways.{PrintsTo};
 ghost use Rattle.script_runs.specs.ByTable.{no_table_line};
-ghost use Rattle.script_runs.specs.Refusing.{plan_of};
+ghost use Rattle.script_runs.specs.Sourced.{plan_of};
 
 use crate::done::{Done, NoTable, Note};
 use crate::printing::{put_line, put_usage};

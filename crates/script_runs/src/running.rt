@@ -11,7 +11,7 @@ ghost use Rattle.fwu_journal.specs.Shown.{HasRoomFor, IsShortReply, reply, turn 
 ghost use Rattle.fwu_journal.specs.declared.line.TheConstants.{LINE_ROOM};
 ghost use Rattle.script_turns.specs.Powered.{device, has_power, moment, moment_of, moment_on, shown_on};
 ghost use Rattle.script_runs.specs.Ending.{is_beyond_model, noted, ending};
-ghost use Rattle.script_runs.specs.Running.{DoesTurn, EndsRun, KeepsFiles};
+ghost use Rattle.script_runs.specs.Ending.{DoesTurn, EndsRun, KeepsFiles};
 ghost use Rattle.script_turns.specs.Sending.{IsUnnamed};
 ghost use Rattle.script_turns.specs.Runs.{Ran, calls_of, sends_none};
 ghost use Rattle.fwu_model.specs.Run.{is_send};

@@ -15,7 +15,7 @@ use Rattle.flash_commands.proofs.SoakEnding.{moment-fresh, soak-calls-are, soak-
 use Rattle.flash_commands.proofs.soak_command.format_and_soak.Goals as goal
 
 pub returns-in-Ok-ended-clause-way : goal.returns-in-Ok-ended-clause-way
-returns-in-Ok-ended-clause-way g c seed given was are good large register_is file_is =
+returns-in-Ok-ended-clause-way g c seed given was good large register_is file_is =
     let d = c.try_format-ended.new.flash in
     let start = moment g.D.Flash d in
     let begins = c.new-run.ensures.powered in
@@ -37,22 +37,22 @@ returns-in-Ok-ended-clause-way g c seed given was are good large register_is fil
     (subst (λ (j : Journal). Ran passes_any g.D.Flash.tells (Some (soak_files seed n)) (turns j) start (moment_of p) 0 0) (sym c.finish.ensures.journal)
     (stands-ran g.D.Flash.tells (soak_files seed n) (soak_calls seed n) (turns run.journal) start (moment_of p) end.status (noted end.note) run.text.items stands)))
     (c.finish.ensures.ended (soak_files seed n) (soak_calls seed n) start stands)
-    (ap is_beyond_model c.finish.ensures.note ∙ c.do_soak-end.ensures.note)
+    (ap is_beyond_model c.finish.ensures.note ∙ c.do_soak-end.ensures.note) refl
 
 pub returns-clause-way : goal.returns-clause-way
-returns-clause-way g c seed given was are good large register_is file_is =
+returns-clause-way g c seed given was good large register_is file_is =
     let r = c.try_format-ended.result in
     not_formatted good large c.args.room.no_turns c.in-Err.field-0
     (tries-as g.D.Flash.tells seed (only_file_of (string_bytes c.args.drawn.first.name) c.args.drawn.first.bytes.items) c.as_str.result.now c.soak_rows.result _ _ _ _ file_is (c.as_str.ensures.value ∙ c.in-Ok.ensures) c.soak_rows.ensures.rows
     c.in-Err.ensures.tries)
-    (c.note_of.ensures ∙ ap format_note c.in-Err.is)
+    (c.note_of.ensures ∙ ap format_note c.in-Err.is) refl
     (as-planned _ c.as_slice.result.now _ c.status_of.result _ _ _ _ _
     (c.as_slice.ensures.value ∙ c.add_format_line.ensures ∙ ap (λ (l : List ℕ). l ++ format_text r) c.args.room.no_text ∙ ap format_text c.in-Err.is) (c.status_of.ensures ∙ ap format_status c.in-Err.is) c.put_line-status.ensures)
 
 -- no memory
 
 pub returns-in_default-clause-way : goal.returns-in_default-clause-way
-returns-in_default-clause-way g c seed given was are good large register_is file_is =
+returns-in_default-clause-way g c seed given was good large register_is file_is =
     let e = c.refuse.ensures in
     let stuck = e.starved refl in
     starved e.no_turns (ap (moment g.D.Flash) e.flash) stuck.0 e.note (ap g.O.Sink.taken stuck.1, ap g.O.Sink.faults stuck.1)

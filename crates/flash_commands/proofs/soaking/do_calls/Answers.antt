@@ -7,7 +7,7 @@ use Rattle.gen_core.specs.Calls.{shown as soak_shown}
 use Rattle.host_io.specs.Contents.{Directory}
 use Rattle.script_turns.specs.Powered.{moment_of}
 use Rattle.script_text.specs.Shown.{shown}
-use Rattle.script_runs.specs.{Ending.noted, Running.DoesTurn}
+use Rattle.script_runs.specs.{Ending.noted, Ending.DoesTurn}
 use Rattle.flash_commands.specs.Soaking.{only_file_of}
 use Rattle.flash_commands.proofs.SoakTurns.{calls-done, calls-end, calls-on, calls-starved}
 use Rattle.flash_commands.proofs.soaking.do_calls.Goals as goal

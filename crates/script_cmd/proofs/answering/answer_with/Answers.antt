@@ -6,7 +6,7 @@ use Rattle.script_runs.specs.Ways.{Given}
 use Rattle.script_runs.proofs.TopSources.{later}
 use Rattle.script_turns.specs.Powered.{moment}
 use Rattle.script_cmd.proofs.AnsweredBy.{answered-plain, answered-starved, answered-turns, answered-usage, no-other}
-use Rattle.script_cmd.proofs.{SoakTop.fails-no-file, TopFormats.formatted-by, TopShows.showed-by, TopLists.no-list-named}
+use Rattle.script_cmd.proofs.{TopFormats.formatted-by, TopShows.showed-by, TopLists.no-list-named}
 use Rattle.script_cmd.proofs.Unasked.{asks-none, asks-still}
 use Rattle.script_cmd.proofs.answering.answer_with.Goals as goal
 
@@ -27,7 +27,7 @@ returns-in-Ok-Show-clause-answers g c =
     (showed-by g.D.Flash.tells given _ _ _ _ _ _ _ _ _
     (e.showed given (record { files = files; source = source; sink = 0 }) (record { files = files; source = source; sink = 0 }) no-list-named)
     e.content e.guard e.no_turns e.counts e.made e.unarmed)
-    (λ leaves. e.power) (λ other. e.note) (λ other. refl) (λ other. refl) (λ other. (refl, refl))
+    (λ other. e.note) (λ other. refl) (λ other. refl) (λ other. (refl, refl))
     (record { files = omega arith; source = omega arith; sink = e.later })
 
 pub returns-in-Ok-Format-clause-answers : goal.returns-in-Ok-Format-clause-answers
@@ -38,7 +38,7 @@ returns-in-Ok-Format-clause-answers g c =
     ((λ runs. runs), refl, refl)
     (formatted-by _ _ _ _ _ _ _ _ _ _ _ _ _ _ _ c.requires.unarmed e.no_turns
     (e.formats (g.I.Source.left c.args.source.now) (g.I.Source.faults c.args.source.now) (g.I.Source.faults c.args.source.now)))
-    (λ leaves. e.power) (λ other. absurd (false≢true (sym other))) (λ other. refl) (λ other. other) (λ other. absurd (false≢true (sym other)))
+    (λ other. absurd (false≢true (sym other))) (λ other. refl) (λ other. other) (λ other. absurd (false≢true (sym other)))
     (record { files = e.reads.later; source = omega arith; sink = e.later_sink })
 
 pub returns-in-Ok-Soak-clause-answers : goal.returns-in-Ok-Soak-clause-answers
@@ -48,10 +48,9 @@ returns-in-Ok-Soak-clause-answers g c =
     let e = c.soak.ensures in
     answered-plain _ (ask.soak c.in-Ok-Soak.seed c.in-Ok-Soak.rounds) (rw c.in-Ok-Soak.field-0-is at c.in-Ok-Soak.ensures)
     ((λ runs. runs), refl, refl)
-    (fails-no-file _ _ _ _ _ _ _
     (e.way (record { list = None; files = g.H.Files.contents c.args.files.now; script = g.I.Source.left c.args.source.now })
-    (record { files = files; source = source; sink = 0 }) (record { files = files; source = source; sink = 0 }) no-list-named) refl)
-    (λ leaves. absurd (false≢true leaves)) (λ other. absurd (false≢true (sym other))) (λ other. refl) (λ other. refl) (λ other. (refl, refl))
+    (record { files = files; source = source; sink = 0 }) no-list-named)
+    (λ other. absurd (false≢true (sym other))) (λ other. refl) (λ other. refl) (λ other. (refl, refl))
     (record { files = omega arith; source = omega arith; sink = e.later })
 
 pub returns-in-Ok-Serve-clause-answers : goal.returns-in-Ok-Serve-clause-answers
@@ -59,7 +58,7 @@ returns-in-Ok-Serve-clause-answers g c =
     let e = c.serve_source.ensures in
     let kept = ap g.H.Files.faults e.files in
     answered-plain _ ask.serve (rw c.in-Ok-Serve.field-0-is at c.in-Ok-Serve.ensures) ((λ runs. runs), refl, refl) e.way
-    (λ leaves. absurd (false≢true leaves)) (λ other. e.note) (λ other. absurd (false≢true (sym other))) (λ other. refl) (λ other. (e.files, kept))
+    (λ other. e.note) (λ other. absurd (false≢true (sym other))) (λ other. refl) (λ other. (e.files, kept))
     (record { files = omega (arith, kept); source = e.later_source; sink = e.later_sink })
 
 pub returns-in-Err-Usage-clause-answers : goal.returns-in-Err-Usage-clause-answers

@@ -1,7 +1,7 @@
 use Rattle.std.proofs.Common.{Some, ap, refl, subst, sym}
 use Rattle.fwu_words.specs.declared.orders.Place.{Place}
 use Rattle.script_turns.specs.Powered.{moment}
-use Rattle.script_runs.specs.{Here.GoesAt, Refusing.plain_of, Refusing.text_of, Ways.ran}
+use Rattle.script_runs.specs.{WaysByTable.GoesAt, Sourced.plain_of, Sourced.text_of, Ways.ran}
 use Rattle.script_runs.proofs.Refused.{asks-of, lacks-at, lacks-quiet}
 use Rattle.script_runs.proofs.TopSources.{fails-by, later, none-fails, takes-by, takes-run}
 use Rattle.script_runs.proofs.{Making.boot-sends, RunEnds.ended-not-long, RunEnds.sends-front, TopWays.ran-told}

@@ -8,7 +8,7 @@ use Rattle.fwu_journal.specs.{declared.journal.Journal.Journal, Shown.HasRoomFor
 use Rattle.script_text.specs.Shown.{shown}
 use Rattle.script_turns.specs.Powered.{at, device, has_power, moment, moment_of, moment_on, shown_on}
 use Rattle.script_turns.specs.{Runs.Ran, Runs.calls_of, Runs.sends_none, Sending.IsUnnamed}
-use Rattle.script_runs.specs.{Ending.is_beyond_model, Running.IsUnnamedIn}
+use Rattle.script_runs.specs.{Ending.is_beyond_model, Ending.IsUnnamedIn}
 use Rattle.script_runs.proofs.RunEnds.{left-behind, sends-more, unnamed-more, GoesOn, goes-none, goes-on, ends-ran, ends-by, ends-printed, all-ended, all-printed, steps-printed}
 use Rattle.script_runs.proofs.TopSources.{done-planned}
 use Rattle.script_runs.proofs.running.run_script.Goals as goal

@@ -3,7 +3,7 @@ use Rattle.std.specs.List.{slice_get}
 use Rattle.fwu_journal.specs.Shown.{HasRoomFor, turns}
 use Rattle.script_turns.specs.{Powered.device, Powered.has_power, Powered.moment, Powered.moment_of, Runs.calls_of, Runs.sends_none}
 use Rattle.host_io.specs.Access.{Access}
-use Rattle.script_runs.specs.Running.{IsUnnamedIn}
+use Rattle.script_runs.specs.Ending.{IsUnnamedIn}
 use Rattle.script_runs.proofs.RunEnds.{GoesOn}
 use Rattle.script_runs.proofs.running.run_script.Given as goal
 
