@@ -3,8 +3,8 @@
 use Rattle.std.specs.Prelude.{◌≡◌, ◌≢◌, ◌≤◌, ⊤, ℕ, List, [], Option, Some, None, All}
 use Rattle.host_io.specs.Access.{Access, Asks, Makes}
 use Rattle.fip_words.specs.Order.{FipAsked, info, info_of_source, create, update, remove, unpack, manifest, capsule, repackage}
-use Rattle.fip_making.specs.{Stops.IsLate, declared.stops.Stop.Stop}
-use Rattle.fip_making.specs.Stops.{IsManifestStop, IsOfCapsule, IsOfEntries, IsOfSource, IsPackageStop, PackingOr}
+use Rattle.fip_making.specs.declared.stops.Stop.{Stop}
+use Rattle.fip_making.specs.Stops.{IsLate, IsManifestStop, IsOfCapsule, IsOfEntries, IsOfSource, IsPackageStop, PackingOr}
 use Rattle.fip_making.specs.declared.stops.Stop.TheVariants as stop
 use Rattle.fip_tool.specs.Lines.{unpacked_name}
 

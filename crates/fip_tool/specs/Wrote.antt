@@ -16,8 +16,8 @@ use Rattle.fip_tool.specs.Lines.{capsule_line, info_text, manifest_line, packed_
 abbrev pub IsListing : List ℕ → Type 0
 IsListing text = (t : Toc) × (size : ℕ) × IsTableOfSome t × (text ≡ info_text t size)
 
--- The texts that a command prints, one after the other, when all is done: with some size, and where a table is read, of some
--- package's, or of one that a capsule might have by `IsSomeTable`. Words that ask for nothing have none.
+-- The texts that a command prints, one after the other, when all is done, with some size. Where a table is read, it is some
+-- package's, or one that a capsule might have by `IsSomeTable`. Words that ask for nothing have none.
 abbrev pub IsTexts : Option FipAsked → List (List ℕ) → Type 0
 IsTexts None texts = ⊥
 IsTexts (Some (info file)) texts = (text : List ℕ) × IsListing text × (texts ≡ text ∷ [])

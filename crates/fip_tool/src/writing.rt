@@ -1,5 +1,5 @@
 //! A file that is made, and the line that is printed then.
-ghost use Rattle.std.specs.Prelude.{◌≡◌, ◌≢◌, ◌≤◌, ◌∷◌, [], All, List, Some, None, Ok, Result, Err, IfErr, IfOk, OnOk, ℕ};
+ghost use Rattle.std.specs.Prelude.{◌≡◌, ◌≢◌, ◌≤◌, ◌∷◌, [], All, Some, None, Err, IfErr, IfOk, OnOk};
 ghost use Rattle.base_core.specs.Counts.{Rose};
 ghost use Rattle.host_io.specs.Access.{Access, Makes};
 ghost use Rattle.host_io.specs.Contents.{Directory};
@@ -11,7 +11,6 @@ ghost use Rattle.fip_making.specs.Payloads.{IsWholeFile, joined_pieces, made_by}
 ghost use Rattle.fip_tool.specs.Lines.{made_line};
 ghost use Rattle.fip_tool.specs.Tool.{puts};
 ghost use Rattle.fip_tool.specs.Wrote.{written_once};
-ghost use Rattle.fip_making.specs.declared.stops.Stop.{Stop};
 ghost use Rattle.fip_making.specs.declared.stops.Stop.TheVariants as stop;
 
 use crate::lines::{Format, made_line};

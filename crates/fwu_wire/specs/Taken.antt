@@ -98,9 +98,10 @@ abbrev pub MakesWrites : {D : Type 0} {F : Ghosts D} → ℕ → Agent D F → A
 MakesWrites {F = F} writes old new = SpendsArming {T = Unit {0}} (Ok tt) writes
     (F.arming (device old)) (F.arming (device new)) (F.counts (device old)) (F.counts (device new))
 
--- By the call, where it is done. A begin stores the metadata, or writes nothing where the update bank was invalid already. So do an
--- acceptance and a going back, of which the metadata tells whether they stored. A write is of a handle that writes. What a read
--- leaves is said apart, whatever comes of it. The calls that are not named did nothing.
+-- By the call, where it is done. A begin stores the metadata, or writes nothing where the update bank was invalid already. An
+-- acceptance and a going back store it, or leave it as it was and write nothing. A write is of a handle that writes. A commit
+-- through no handle that writes did nothing, which is said apart. So is what a read leaves, whatever comes of it. The calls that
+-- are not named did nothing.
 abbrev pub TakesIfDone : {D : Type 0} {F : Ghosts D} → Call → Agent D F → Agent D F → Type 0
 TakesIfDone {F = F} (call.Begin count) old new =
     Takes (writes_to_begin (fields old)) (F.arming (device old)) (F.arming (device new))
