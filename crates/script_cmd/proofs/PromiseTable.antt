@@ -232,8 +232,8 @@ module _ (passes : List ℕ → Bool) (device : Device) (inputs : Inputs) (end :
   gives-all image p gives = ap (lacked_of device.blocks) gives.decides ∙ ap lacked_by gives.gives
 
   complete-by-table : Ends → CompleteByTable passes device inputs end old new
-  complete-by-table (untouched none same other beyond w) p clean gives no_cut =
-      ways-are-complete passes device.tells inputs (in_model end) (seen_in p old) (seen_in p new) (untouched-seen p other none w)
+  complete-by-table (untouched none same other beyond w) p clean gives no_cut told E s asked_calls script premises asks is served =
+      ways-are-complete passes device.tells inputs (in_model end) (seen_in p old) (seen_in p new) (untouched-seen p other none w) told E s asked_calls script premises asks is served
   complete-by-table (starved calls reads none looks nine quiet same) p clean gives no_cut told E s asked_calls script premises asks is served = inr nine
   complete-by-table (lacked calls why reads none looks lacks noted_is prints) p clean gives no_cut told E s asked_calls script premises asks is served =
       let one = gives-all old.flash.told.now p gives in

@@ -1,9 +1,9 @@
 -- What a serving took, did and wrote, by how it ended.
 use Rattle.std.proofs.Common.{◌≡◌, ◌≢◌, ◌==◌, ◌&&◌, not, cond, if◌then◌else◌, ◌≤◌, ℕ, ◌+◌, Bool, List, ◌∷◌, ◌++◌, length, length-append, take, drop, Option, Some, None, Result, Ok, Err, refl, sym, ap, subst, ◌∙◌, arith, append-nil, append_assoc, inl, inr}
-use Rattle.std.specs.Prelude.{IfSome, IsTrue, IsFalse, false, true, map, slice_get, slice_index_or, [], All, Contains, ◌<◌}
+use Rattle.std.specs.Prelude.{IfSome, IsTrue, IsFalse, false, true, map, slice_get, [], All, Contains, ◌<◌}
 use Rattle.std.proofs.{lemmas.Bool.cases_eq, lemmas.Bool.false≢true, lemmas.List.length-map, lemmas.List.map-append}
 use Rattle.std.proofs.lemmas.List.{get_or_append_left, get_or_push, length_push}
-use Rattle.std.proofs.lemmas.List.Elements.{All-contains, All-nil, All-push, All-tail, Contains-get_or}
+use Rattle.std.proofs.lemmas.List.Elements.{All-contains, All-nil, All-push, All-tail}
 use Rattle.std.proofs.lemmas.Option.{get_or_from_slice_get, same_Some, slice_get_within}
 use Rattle.std.specs.Io.KnownBytes.{Appends, Consumes, IsAtEnd}
 use Rattle.std.proofs.KnownBytes.{Appends-nil, Appends-trans, Consumes-nil, Consumes-trans, Consumes-whole}
@@ -26,7 +26,7 @@ use Rattle.serving.specs.Going.{ServesRequests, ServeEnds, TakesFrames, at_the_e
 use Rattle.serving.specs.Scene.{At, Port, RunAt, Scene, begin_at, unasked}
 use Rattle.serving.specs.Written.{AnswersRequests, acting, answered_numbers, called, calls_for, frame_of, messages_of, all_frames}
 use Rattle.serving.specs.declared.ends.ServeEnd.TheVariants as end
-use Rattle.serving.proofs.{Starts.goes-none, Steps.acting-more, Steps.frame-last, Steps.length-messages, Steps.messages-more}
+use Rattle.serving.proofs.{Starts.Goes, Starts.goes-none, Steps.acting-more, Steps.frame-last, Steps.length-messages, Steps.messages-more}
 use Rattle.script_runs.specs.Ending.{last_turn}
 use Rattle.script_runs.proofs.TopSources.{later}
 use Rattle.script_cmd.specs.ServedBy.{last_frame, reads_no_more}
@@ -79,14 +79,8 @@ no-answer : (e : ServeEnd) → ◌≡◌ {A = Result (Unit {0}) ServeEnd} (Err e
 no-answer e is = cc
 
 -- behind each of them it went on
-abbrev Goes : Turn → Type 0
-Goes t = end_by t.reply ≡ Ok tt
-
 abbrev pub AllGo : List Turn → Type 0
 AllGo turns = All Goes turns
-
-entered : {turns : List Turn} → ((t : Turn) → Contains turns t → Goes t) → AllGo turns
-entered {turns} goes k d lt = goes (slice_index_or turns k d) (Contains-get_or turns k d lt)
 
 -- one by which it ends is the last
 abbrev pub EndsLast : ServeEnd → List Turn → Type 0
@@ -223,7 +217,7 @@ idle from to e journal before after still same goes fails some one by = record {
   part = [];
   more = [];
   one = omega arith;
-  each = tt;
+  each = λ k d below. absurd (omega (arith, below));
   come = some-from from.bytes (λ s. IsPrefixOf [] s) (λ s told. (s, refl));
   all = λ is. absurd (goes (ap (λ (x : ServeEnd). reads_no_more (status_of x)) is));
   left = λ is. absurd (goes (ap (λ (x : ServeEnd). reads_no_more (status_of x)) is));
@@ -413,7 +407,7 @@ module _ (E : Scene) (t : Turn) (start : TurnMoment) (old new : At) (e : ServeEn
         begin = ([], append-nil goes.turns ∙ sym behind);
         all_turns = λ is. sym behind;
         calls = goes.answers.calls_are;
-        goes = All-tail Goes t goes.turns (subst AllGo goes.journal_is (entered goes.goes));
+        goes = All-tail Goes t goes.turns (subst AllGo goes.journal_is goes.goes);
         all_calls = ([], append-nil (calls_of (drop 1 new.run.journal)) ∙ ap calls_of behind ∙ goes.answers.calls_are ∙ ap calls_for (sym whole));
         took = subst (Appends old.sink.bytes new.sink.bytes) (sym (append-nil (all_frames (messages_of goes.turns) (answered_numbers 0 bodies)))) goes.took;
         none = λ differs. refl;
@@ -421,7 +415,7 @@ module _ (E : Scene) (t : Turn) (start : TurnMoment) (old new : At) (e : ServeEn
         some = λ differs none. let all_of : new.run.journal ≡ t ∷ goes.turns = goes.journal_is in cc;
         unread = λ none. absurd (let all_of : new.run.journal ≡ t ∷ goes.turns = goes.journal_is in cc);
         first = λ u x at ends. absurd (goes-first new.run.journal goes.turns u x goes.journal_is on at ends);
-        ends = none-ends e new.run.journal (entered goes.goes);
+        ends = none-ends e new.run.journal goes.goes;
         decides = λ u last ends. absurd (none-last new.run.journal goes.none u last ends);
       }
 
@@ -457,7 +451,7 @@ module _ (E : Scene) (t : Turn) (start : TurnMoment) (old new : At) (e : ServeEn
         begin = (last.more, sym behind);
         all_turns = λ is. absurd (last.goes is);
         calls = goes.answers.calls_are;
-        goes = All-tail Goes t goes.turns (subst AllGo goes.journal_is (entered goes.goes));
+        goes = All-tail Goes t goes.turns (subst AllGo goes.journal_is goes.goes);
         all_calls = (
           last.calls.0,
           ap (λ (ts : List Turn). calls_of ts ++ last.calls.0) behind
@@ -473,7 +467,7 @@ module _ (E : Scene) (t : Turn) (start : TurnMoment) (old new : At) (e : ServeEn
         some = λ differs none. cc;
         unread = λ none. absurd (cc);
         first = λ u x at ends. absurd (goes-first new.run.journal (goes.turns ++ last.more) u x all_of on at ends);
-        ends = last.ends (entered goes.goes);
+        ends = last.ends goes.goes;
         decides = last.decides;
       }
 

@@ -127,7 +127,7 @@ module _ (g : Given) (ending : Ending Note) (old new : World) (rest : Option (Li
     part = [];
     more = [];
     one = omega arith;
-    each = tt;
+    each = λ k d below. absurd (omega (arith, below));
     come = some-from g.script (λ s. IsPrefixOf [] s) (λ s told. (s, refl));
     all = λ is. absurd (omega (arith, is, nine));
     taken = λ early. subst (λ (o : Option (List ℕ)). Consumes g.script o []) (sym unread.0) (Consumes-nil g.script);

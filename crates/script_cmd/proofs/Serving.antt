@@ -24,13 +24,17 @@ serving {passes} {device} {inputs} {ending} {old} {new} {rest} {fb} {fa} {sb} {s
   sink_count = answered-counts old new passes device inputs ending rest fb fa sb sa a;
 }
 
-module _ {H I : Type 0} {tells : Bool} {blocks : ℕ} {told : Option (List ℕ → Option (List ℕ))} {left rest : Option (List ℕ)} {journal : List Turn} {status : ℕ} {said : Note} {old new : TurnMoment} {taken_before taken_after : Option (List ℕ)} {faults_before faults_after : Faults} {files files_after : H} {source source_after : I} where
-  abbrev By : Bool → Option Asked → Option (List ℕ) → Type 0
-  By asks asked list = ServesByList asks (device-of tells blocks) (inputs-of asked list told left) (end-of journal status said) (world-of old taken_before faults_before) (world-of new taken_after faults_after) rest files files_after source source_after
+-- by equal words
+by-words : (By : Bool → Option Asked → Option (List ℕ) → Type 0) {asks other : Bool} {asked wanted : Option Asked} {list named : Option (List ℕ)} → asks ≡ other → asked ≡ wanted → list ≡ named → By other wanted named → By asks asked list
+by-words By {asks} {other} {asked} {wanted} {list} {named} asks_is asked_is list_is held =
+    subst (λ (b : Bool). By b asked list) (sym asks_is)
+    (subst (λ (a : Option Asked). By other a list) (sym asked_is)
+    (subst (λ (l : Option (List ℕ)). By other wanted l) (sym list_is) held))
 
-  -- by equal words
-  pub serves-at : {asks other : Bool} {asked wanted : Option Asked} {list named : Option (List ℕ)} → asks ≡ other → asked ≡ wanted → list ≡ named → By other wanted named → By asks asked list
-  serves-at {asks} {other} {asked} {wanted} {list} {named} asks_is asked_is list_is serves =
-      subst (λ (b : Bool). By b asked list) (sym asks_is)
-      (subst (λ (a : Option Asked). By other a list) (sym asked_is)
-      (subst (λ (l : Option (List ℕ)). By other wanted l) (sym list_is) serves))
+module _ {H I : Type 0} {tells : Bool} {blocks : ℕ} {told : Option (List ℕ → Option (List ℕ))} {left rest : Option (List ℕ)} {journal : List Turn} {status : ℕ} {said : Note} {old new : TurnMoment} {taken_before taken_after : Option (List ℕ)} {faults_before faults_after : Faults} {files files_after : H} {source source_after : I} where
+  pub serves-at : {asks other : Bool} {asked wanted : Option Asked} {list named : Option (List ℕ)} → asks ≡ other → asked ≡ wanted → list ≡ named
+      → ServesByList other (device-of tells blocks) (inputs-of wanted named told left) (end-of journal status said) (world-of old taken_before faults_before) (world-of new taken_after faults_after) rest files files_after source source_after
+      → ServesByList asks (device-of tells blocks) (inputs-of asked list told left) (end-of journal status said) (world-of old taken_before faults_before) (world-of new taken_after faults_after) rest files files_after source source_after
+  serves-at asks_is asked_is list_is serves =
+      by-words (λ (b : Bool) (a : Option Asked) (l : Option (List ℕ)). ServesByList b (device-of tells blocks) (inputs-of a l told left) (end-of journal status said) (world-of old taken_before faults_before) (world-of new taken_after faults_after) rest files files_after source source_after)
+      asks_is asked_is list_is serves
