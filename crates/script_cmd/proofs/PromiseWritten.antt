@@ -8,7 +8,7 @@ use Rattle.fwu_model.specs.Wrote.{Wrote, StopsAlone, may_lack, not_read_line, us
 use Rattle.fwu_words.specs.Order.{Asked}
 use Rattle.script_runs.specs.{Ending.Ending, Ending.World, Ending.WritesLines}
 use Rattle.host_io.specs.Printed.{Prints, all, front, nothing}
-use Rattle.script_runs.specs.Ways.{Given, Way, Refuses, usage, not_read, too_long, bad_script, bad_list, starved, refused, ran}
+use Rattle.script_runs.specs.Ways.{Given, Way, Refuses, usage, too_long, bad_script, bad_list, starved, refused, ran}
 use Rattle.script_runs.proofs.TopWays.{end-of}
 use Rattle.script_cmd.specs.Promises.{WroteHolds}
 use Rattle.script_cmd.proofs.PromiseTurns.{is_ran, none-ended, ran-at, ran-status, early-not-ran}

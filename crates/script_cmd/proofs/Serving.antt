@@ -5,7 +5,7 @@ use Rattle.fwu_words.specs.Order.{Asked}
 use Rattle.script_turns.specs.Powered.{TurnMoment}
 use Rattle.script_runs.specs.{Ending.Device, Ending.Ending, Ending.World, declared.done.Note.Note}
 use Rattle.script_runs.proofs.TopWays.{device-of, end-of, world-of}
-use Rattle.script_cmd.specs.{Here.Answered, Serves.Serves, Serves.ServesByList, Handed.Inputs}
+use Rattle.script_cmd.specs.{Here.Answered, Serves.Serves, Serves.ServesFor, Handed.Inputs}
 use Rattle.script_cmd.proofs.{PromiseAll.promised, PromiseTable.promised-by-table, SinkCounts.answered-counts, Unasked.inputs-of}
 use Rattle.script_cmd.proofs.{ServePromise.served-by, SoakPromise.soaked-by}
 
@@ -33,8 +33,8 @@ by-words By {asks} {other} {asked} {wanted} {list} {named} asks_is asked_is list
 
 module _ {H I : Type 0} {tells : Bool} {blocks : ℕ} {told : Option (List ℕ → Option (List ℕ))} {left rest : Option (List ℕ)} {journal : List Turn} {status : ℕ} {said : Note} {old new : TurnMoment} {taken_before taken_after : Option (List ℕ)} {faults_before faults_after : Faults} {files files_after : H} {source source_after : I} where
   pub serves-at : {asks other : Bool} {asked wanted : Option Asked} {list named : Option (List ℕ)} → asks ≡ other → asked ≡ wanted → list ≡ named
-      → ServesByList other (device-of tells blocks) (inputs-of wanted named told left) (end-of journal status said) (world-of old taken_before faults_before) (world-of new taken_after faults_after) rest files files_after source source_after
-      → ServesByList asks (device-of tells blocks) (inputs-of asked list told left) (end-of journal status said) (world-of old taken_before faults_before) (world-of new taken_after faults_after) rest files files_after source source_after
+      → ServesFor other (device-of tells blocks) (inputs-of wanted named told left) (end-of journal status said) (world-of old taken_before faults_before) (world-of new taken_after faults_after) rest files files_after source source_after
+      → ServesFor asks (device-of tells blocks) (inputs-of asked list told left) (end-of journal status said) (world-of old taken_before faults_before) (world-of new taken_after faults_after) rest files files_after source source_after
   serves-at asks_is asked_is list_is serves =
-      by-words (λ (b : Bool) (a : Option Asked) (l : Option (List ℕ)). ServesByList b (device-of tells blocks) (inputs-of a l told left) (end-of journal status said) (world-of old taken_before faults_before) (world-of new taken_after faults_after) rest files files_after source source_after)
+      by-words (λ (b : Bool) (a : Option Asked) (l : Option (List ℕ)). ServesFor b (device-of tells blocks) (inputs-of a l told left) (end-of journal status said) (world-of old taken_before faults_before) (world-of new taken_after faults_after) rest files files_after source source_after)
       asks_is asked_is list_is serves

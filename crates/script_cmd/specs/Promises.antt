@@ -100,10 +100,11 @@ pub record RanHolds (passes : List ℕ → Bool) (tells : Bool) (files : Option 
   pub to : ℕ
   -- For every device what each turn did, from the device as it was handed in to what is left of it. Its reply is that of each
   -- machine that the agent shows. A boot's reply tells whether an agent is there, and with which numbers it begins. While off a
-  -- call of the agent is answered `off`. What an armed loss counts is known, and so are its causes. The files' faults begin with
-  -- those that the files had counted when they were handed in, so none comes before the first turn.
+  -- call of the agent is answered `off`. What the agent keeps is known, and what an armed loss counts. So are the causes of the
+  -- turn. The files' faults begin with those that the files had counted when they were handed in, so none comes before the first
+  -- turn.
   pub follows : Follows passes tells files journal old.flash (record new.flash { on = on }) old.faults.files to
-  -- where a turn ran none comes behind the last
+  -- where a turn ran, no fault of the files comes behind the last one
   pub ends : journal ≢ [] → to ≡ new.faults.files
   -- On a device that counts its writes, whatever its reads gave, from one on which no bank was started: blocks 0 and 4 were neither
   -- erased nor programmed. Where the turns have one boot, and its agent is there at the end, nor was a block but 1 to 6 and those
@@ -117,9 +118,10 @@ pub record RanHolds (passes : List ℕ → Bool) (tells : Bool) (files : Option 
   pub once : all_stops new.flash.counts ≤ all_stops old.flash.counts + stops_of journal
   -- the same blocks are guarded
   pub guard : IsTrue tells → new.flash.told.guard ≡ old.flash.told.guard
-  -- where no turn is a `cut`, no armed loss is reached
+  -- where none was armed at first and no turn is a `cut`, no armed loss is reached
   pub free : old.flash.armed ≡ None → cuts_in journal ≡ 0 → RunsFree journal old.flash new.flash
-  -- there are no more lost turns than `cut`s and losses that the device counted, unless that count stands at the greatest number
+  -- There are no more lost turns than `cut`s, a loss that was armed at first, and losses that the device counted. That count may
+  -- stand at the greatest number.
   pub due : LossesAreDue journal old.flash new.flash
   -- on any told flash with nothing dirty, sound or not: a first turn that is a boot goes by the bytes
   pub first : IsTrue tells → NothingDirty old.flash.told → (t : Turn) → slice_get journal 0 ≡ Some t

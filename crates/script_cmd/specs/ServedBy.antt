@@ -60,7 +60,7 @@ pub record ServedEnds (g : Given) (ending : Ending Note) (old new : World) (rest
   pub flash_fault : ending.status ≡ 5 → EndsWith ending.journal reply.Fault × Rose old.flash.counts.faults new.flash.counts.faults
   -- the one turn is a boot that started no bank, and why is noted
   pub not_booted : ending.status ≡ 6 → (why : NoBoot) × RefusesBoot ending.journal why × (ending.noted ≡ note.Boot why)
-  -- so much was taken of the source: byte 1,073,741,825 at 8, as the last one, and at no other status
+  -- byte 1,073,741,825 was taken of the source at 8, as the last one, and at no other status
   pub taken : (given : List ℕ) × Consumes g.script rest given × (length given ≤ most_bytes + 1)
       × ((ending.status ≡ 8) ↔ (most_bytes < length given))
   -- and so it has more than 1 GiB
@@ -161,8 +161,8 @@ pub record ServedBy (passes : List ℕ → Bool) (tells : Bool) (g : Given) (end
   pub first : (t : Turn) (e : ServeEnd) → slice_get ending.journal 0 ≡ Some t → end_by t.reply ≡ Err e → Unread g old new rest
   -- For every device, files, source and sink: each status has its cause.
   pub ends : ServedEnds g ending old new rest
-  -- For every device, files, source and sink: what was answered, by which turns, and what the sink took, at every status. That
-  -- are frames, or the line of a list that was refused.
+  -- For every device, files, source and sink: what was answered, by which turns, and what the sink took, at every status.
+  -- These are frames, or the line of a list that was refused.
   pub wrote : WroteFrames g.script rest ending old.taken new.taken
       ⊎ ((ending.journal ≡ []) × RefusedList ask.serve g ending.status ending.noted old new)
   -- From a sound flash all requests are served, where nothing was lacking and nothing failed, unless memory was wanting.

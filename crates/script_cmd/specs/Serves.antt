@@ -2,7 +2,7 @@
 use Rattle.std.specs.Prelude.{◌≡◌, ◌≢◌, ◌≤◌, ℕ, Bool, List, Option, Some, None, IsTrue, IsFalse}
 use Rattle.fwu_formats.specs.Layout.{ImageRow}
 use Rattle.fwu_model.specs.Asked as model
-use Rattle.fwu_model.specs.{Causes.Faults, Causes.may_fail_before, Reply.Turn}
+use Rattle.fwu_model.specs.{Allow.asks_list, Causes.Faults, Causes.may_fail_before, Reply.Turn}
 use Rattle.fwu_words.specs.Order.{Asked}
 use Rattle.fwu_words.specs.Order as ask
 use Rattle.host_io.specs.{Access.Access, Access.Asks, Printed.FailsAtThree}
@@ -86,10 +86,15 @@ pub record Serves {H I : Type 0} (passes : List ℕ → Bool) (device : Device) 
   -- the sink failed once where the status is 3, and else not at all
   pub sink_count : FailsAtThree ending.status old.faults.sink new.faults.sink
 
--- The same by the manifests that the list has which the words name, if they ask for one. Where they name one and none was read
--- nothing was done, and it holds whichever pass.
-abbrev pub ServesByList : {H I : Type 0} → Bool → Device → Inputs → Ending Note → World → World → Option (List ℕ)
+-- The same by the manifests that the list has which is named, if one is asked for. Where none was read nothing was done, and it
+-- holds whichever pass.
+abbrev pub ServesFor : {H I : Type 0} → Bool → Device → Inputs → Ending Note → World → World → Option (List ℕ)
     → H → H → I → I → Type 0
-ServesByList asks device inputs ending old new rest files_before files_after source_before source_after =
+ServesFor asks device inputs ending old new rest files_before files_after source_before source_after =
     ByList (HasPasses asks inputs.list inputs.files) (IsIdle ending.journal ending.status old.flash new.flash)
     (λ passes. Serves passes device inputs ending old new rest files_before files_after source_before source_after)
+
+-- so where the words ask for a list
+abbrev pub ServesByList : {H I : Type 0} → List (List ℕ) → Device → Inputs → Ending Note → World → World → Option (List ℕ)
+    → H → H → I → I → Type 0
+ServesByList words = ServesFor (asks_list words)

@@ -2,11 +2,10 @@
 ghost use Rattle.std.specs.Prelude.{◌≡◌, Some, None, map, string_bytes, true, IsFalse};
 ghost use Rattle.host_io.specs.Once.{ReadsOnce};
 ghost use Rattle.host_io.specs.Reads.{ReadsFiles};
-ghost use Rattle.fwu_model.specs.Allow.{asks_list};
 ghost use Rattle.fwu_words.specs.Order.{asked};
 ghost use Rattle.script_cmd.specs.Here.{Answered};
 ghost use Rattle.script_cmd.specs.Handed.{by_list, unlisted, inputs_of};
-ghost use Rattle.script_cmd.specs.Serves.{IsUnasked, ServesByList};
+ghost use Rattle.script_cmd.specs.Serves.{IsUnasked, ServesByList, ServesFor};
 ghost use Rattle.script_runs.specs.Ending.{ending};
 ghost use Rattle.script_runs.specs.Ways.{described, world};
 
@@ -68,7 +67,7 @@ fn run_listed<D: Flash, H: Files, I: Source, O: Sink>(
 ) -> Done<D>
     requires off { IsFalse (D.on flash) }
     requires unarmed { D.arming flash ≡ None }
-    ensures serves { ServesByList true (described D.Flash flash)
+    ensures serves { ServesFor true (described D.Flash flash)
         (inputs_of H.Files I.Source (asked (map string_bytes rest.now)) (Some name.now) files.old source.old)
         (ending result) (world D.Flash H.Files I.Source O.Sink flash files.old source.old sink.old)
         (world D.Flash H.Files I.Source O.Sink result.flash files.new source.new sink.new)
@@ -101,7 +100,7 @@ pub fn answer<D: Flash, H: Files, I: Source, O: Sink>(
 ) -> Done<D>
     requires off { IsFalse (D.on flash) }
     requires unarmed { D.arming flash ≡ None }
-    ensures serves { ServesByList (asks_list (map string_bytes words.now)) (described D.Flash flash)
+    ensures serves { ServesByList (map string_bytes words.now) (described D.Flash flash)
         (by_list H.Files I.Source (map string_bytes words.now) files.old source.old) (ending result)
         (world D.Flash H.Files I.Source O.Sink flash files.old source.old sink.old)
         (world D.Flash H.Files I.Source O.Sink result.flash files.new source.new sink.new)

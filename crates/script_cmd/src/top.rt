@@ -1,6 +1,5 @@
 //! The program as one call.
 ghost use Rattle.std.specs.Prelude.{◌≡◌, None, map, string_bytes, IsFalse};
-ghost use Rattle.fwu_model.specs.Allow.{asks_list};
 ghost use Rattle.host_io.specs.Once.{ReadsOnce};
 ghost use Rattle.host_io.specs.Reads.{ReadsFiles};
 ghost use Rattle.script_runs.specs.Ending.{ending};
@@ -70,7 +69,7 @@ pub fn fwu_top<D: Flash, H: Files, I: Source, O: Sink>(
     requires unarmed { D.arming flash ≡ None }
 
     // By the manifests that the list has; where one is named and none was read nothing was done, and it holds whichever pass.
-    ensures serves { ServesByList (asks_list (map string_bytes words.now)) (described D.Flash flash)
+    ensures serves { ServesByList (map string_bytes words.now) (described D.Flash flash)
         (by_list H.Files I.Source (map string_bytes words.now) files.old source.old) (ending result)
         (world D.Flash H.Files I.Source O.Sink flash files.old source.old sink.old)
         (world D.Flash H.Files I.Source O.Sink result.flash files.new source.new sink.new)
